@@ -1,0 +1,6 @@
+use borrow.Author.Needs.{needs}
+use Rattle.scales.proofs.Models.{same-level}
+use Rattle.scales.proofs.level_scale.LevelScale.of_reading.Needs as need
+
+pub returns : need.returns
+returns c = same-level _ _ (search needs)

@@ -1,0 +1,5 @@
+pub mod Scales
+pub mod Lattices
+pub mod Plains
+pub mod Doubts
+pub mod Levels
