@@ -3,7 +3,7 @@ use crate::show::opened;
 use std::error::AnyError;
 
 // Every way in which bytes fail to be a file, beside files that are.
-pub fn run(rt: &LibcRuntime) -> Result<(), AnyError> {
+pub(crate) fn run(rt: &LibcRuntime) -> Result<(), AnyError> {
     let heap = rt.alloc();
     opened(rt, "no bytes", &[])?;
     opened(rt, "seven bytes", &[0; 7])?;
@@ -58,7 +58,7 @@ fn many(rt: &LibcRuntime, name: &str, count: u64) -> Result<(), AnyError> {
 }
 
 // The limits of times, offsets and counts.
-pub fn run_limits(rt: &LibcRuntime) -> Result<(), AnyError> {
+pub(crate) fn run_limits(rt: &LibcRuntime) -> Result<(), AnyError> {
     two_times(rt, "times alike", 7, 7, 0)?;
     two_times(rt, "a time that falls", 7, 6, 0)?;
     two_times(rt, "the latest time", 7, 4_000_000_000_000, 0)?;

@@ -66,7 +66,7 @@ fn layers<L: Log>(rt: &LibcRuntime, log: &L) -> Result<(), AnyError> {
     )
 }
 
-pub fn run(rt: &LibcRuntime) -> Result<(), AnyError> {
+pub(crate) fn run(rt: &LibcRuntime) -> Result<(), AnyError> {
     let heap = rt.alloc();
     let mut draft = Draft::new(heap);
     draft.record(100, 2, &[0, 127, 2, 128], 0)?;

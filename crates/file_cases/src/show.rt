@@ -5,7 +5,7 @@ use refusals::RefusalDisplay;
 use std::error::AnyError;
 
 // What opening the bytes gives.
-pub fn opened(rt: &LibcRuntime, name: &str, bytes: &[u8]) -> Result<(), AnyError> {
+pub(crate) fn opened(rt: &LibcRuntime, name: &str, bytes: &[u8]) -> Result<(), AnyError> {
     match FileLog::open(bytes) {
         Ok(file) => {
             let count = file.log().count();
@@ -20,7 +20,7 @@ pub fn opened(rt: &LibcRuntime, name: &str, bytes: &[u8]) -> Result<(), AnyError
 }
 
 // The events of a log: number, time, and the readings of facts a to d.
-pub fn events<L: Log>(rt: &LibcRuntime, name: &str, log: &L) -> Result<(), AnyError> {
+pub(crate) fn events<L: Log>(rt: &LibcRuntime, name: &str, log: &L) -> Result<(), AnyError> {
     let count = log.count();
     println!(rt, "{name}: {count} events")?;
     for event in 1..=count {

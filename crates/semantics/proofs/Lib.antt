@@ -1,0 +1,10 @@
+pub mod Indexed
+pub mod Normals
+pub mod Steps
+pub mod Places
+pub mod Values
+pub mod Relations
+pub mod Cells
+pub mod Decoding
+pub mod Theorems
+pub mod Cases

@@ -1,0 +1,10 @@
+pub mod Words
+pub mod Forms
+pub mod Normals
+pub mod Automata
+pub mod Values
+pub mod Cells
+pub mod Continuations
+pub mod Relations
+pub mod Theorems
+pub mod Worked
