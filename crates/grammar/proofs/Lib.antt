@@ -1,0 +1,5 @@
+pub mod Fronts
+pub mod Unique
+pub mod Decimals
+pub mod Absences
+pub mod Lengths

@@ -1,0 +1,4 @@
+pub mod Decoding
+pub mod Tested
+pub mod Onto
+pub mod Written

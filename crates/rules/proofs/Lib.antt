@@ -1,0 +1,4 @@
+pub mod Coded
+pub mod Judged
+pub mod Facts
+pub mod Loads

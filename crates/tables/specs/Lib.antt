@@ -1,0 +1,4 @@
+pub mod Intervals
+pub mod Sources
+pub mod NormalTables
+pub mod CellTables
