@@ -1,6 +1,7 @@
 use logs::Log;
 use rules::Rule;
 use running::WorkingTable;
+use running::is_settled;
 use running::outlook;
 use running::run;
 use scales::Scale;
@@ -54,7 +55,8 @@ fn outlook_printed<S: Scale, L: Log>(
         Ok((floor, ceiling)) => {
             let low = floor.shown();
             let high = ceiling.shown();
-            println!(rt, "  outlook at {event}: {low} {high}")?;
+            let settled = is_settled(floor, ceiling);
+            println!(rt, "  outlook at {event}: {low} {high}, settled {settled}")?;
         }
         Err(refusal) => {
             let number = refusal.number();

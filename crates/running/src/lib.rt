@@ -7,6 +7,7 @@ mod rows;
 pub mod rule_runs;
 pub mod working_table;
 
+pub use rule_runs::is_settled;
 pub use rule_runs::outlook;
 pub use rule_runs::run;
 pub use working_table::WorkingTable;
