@@ -1,0 +1,4 @@
+pub mod Recording
+pub mod Offers
+pub mod Plays
+pub mod Growth

@@ -1,0 +1,4 @@
+pub mod Books
+pub mod Closed
+pub mod Opened
+pub mod Replays
