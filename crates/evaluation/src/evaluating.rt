@@ -21,9 +21,9 @@ fn evaluate_tables<S: Scale, L: Log>(
     count: usize,
 )
     requires sound { Sound automaton.cells.now automaton.locations.now }
-    requires counted { count ≡ length (events log.now) }
-    requires fits { needed (events log.now) automaton.cells.now automaton.locations.now ≤ length grades.old }
-    ensures { Evaluated ops (events log.now) automaton.entry.cells.now automaton.entry.locations.now boundary grades.old grades.new }
+    requires counted { count ≡ length (L.events log.now) }
+    requires fits { needed (L.events log.now) automaton.cells.now automaton.locations.now ≤ length grades.old }
+    ensures { Evaluated S.ops (L.events log.now) automaton.entry.cells.now automaton.entry.locations.now boundary grades.old grades.new }
 {
     let base = automaton.locations.len() * count;
     begin(boundary, automaton.locations, grades, count);
@@ -39,7 +39,7 @@ pub fn evaluate<S: Scale, L: Log>(
     boundary: Boundary,
     grades: &mut [S],
 ) -> Result<usize, Refusal>
-    ensures { MatchResult result (λ n. RuleEvaluated ops rule.now (events log.now) boundary n grades.old grades.new) (λ e. Refused (memory_refusal (grades_for rule.now (events log.now)) (length grades.old)) e grades.old grades.new) }
+    ensures { MatchResult result (λ n. RuleEvaluated S.ops rule.now (L.events log.now) boundary n grades.old grades.new) (λ e. Refused (memory_refusal (grades_for rule.now (L.events log.now)) (length grades.old)) e grades.old grades.new) }
 {
     let automaton = Automaton {
         cells: rule.cells(),

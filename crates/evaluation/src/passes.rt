@@ -14,7 +14,7 @@ const MOST: usize = 512;
 
 // The time of each event, asked of the log once.
 pub(crate) fn times_of<L: Log>(log: &L) -> [u64; 512]
-    ensures timed { Timed (events log.now) (length (events log.now)) result }
+    ensures timed { Timed (L.events log.now) (length (L.events log.now)) result }
     ensures long { length result ≡ 512 }
 {
     let mut times = [0; MOST];
@@ -33,10 +33,10 @@ fn at_event<S: Scale, L: Log>(
     turn: Turn,
 )
     requires turned { Turned automaton.cells.now automaton.locations.now turn (length grades.old) }
-    requires timed { Timed (events log.now) turn.count times.now }
+    requires timed { Timed (L.events log.now) turn.count times.now }
     requires long { turn.count ≤ length times.now }
-    ensures done { EventDone ops (events log.now) automaton.entry.cells.now automaton.entry.locations.now turn.count turn.at grades.old grades.new }
-    ensures rest { Rest ops automaton.entry.cells.now automaton.entry.locations.now turn.base grades.old grades.new }
+    ensures done { EventDone S.ops (L.events log.now) automaton.entry.cells.now automaton.entry.locations.now turn.count turn.at grades.old grades.new }
+    ensures rest { Rest S.ops automaton.entry.cells.now automaton.entry.locations.now turn.base grades.old grades.new }
 {
     let event = event_of(log, turn.at);
     column(&event, automaton.cells, grades, turn);
@@ -54,10 +54,10 @@ pub(crate) fn backward<S: Scale, L: Log>(
     base: usize,
 )
     requires laid { Laid automaton.cells.now automaton.locations.now count base (length grades.old) }
-    requires timed { Timed (events log.now) count times.now }
+    requires timed { Timed (L.events log.now) count times.now }
     requires long { count ≤ length times.now }
-    ensures done { EventsDone ops (events log.now) automaton.entry.cells.now automaton.entry.locations.now count 0 grades.old grades.new }
-    ensures rest { Rest ops automaton.entry.cells.now automaton.entry.locations.now base grades.old grades.new }
+    ensures done { EventsDone S.ops (L.events log.now) automaton.entry.cells.now automaton.entry.locations.now count 0 grades.old grades.new }
+    ensures rest { Rest S.ops automaton.entry.cells.now automaton.entry.locations.now base grades.old grades.new }
 {
     let mut at = count;
     while at > 0 {

@@ -13,7 +13,7 @@ use tables::Location;
 fn move_root<S: Scale>(locations: &[Location], grades: &mut [S], turn: Turn, l: usize)
     requires rooted { Rooted turn locations.now (length grades.old) }
     requires inside { l < length locations.now }
-    ensures { grades.new ≡ slice_set grades.old (l * turn.count + (turn.at - 1)) (held_from ops grades.old turn.base (slice_index_or locations.now l no_location).root) }
+    ensures { grades.new ≡ slice_set grades.old (l * turn.count + (turn.at - 1)) (held_from S.ops grades.old turn.base (slice_index_or locations.now l no_location).root) }
 {
     let grade = grades[turn.base + locations[l].root as usize];
     grades[place(l, turn.count, turn.at)] = grade;
@@ -22,7 +22,7 @@ fn move_root<S: Scale>(locations: &[Location], grades: &mut [S], turn: Turn, l: 
 // Moves the roots of a column that is graded whole to the places of its start.
 pub(crate) fn settle<S: Scale>(locations: &[Location], grades: &mut [S], turn: Turn)
     requires { Rooted turn locations.now (length grades.old) }
-    ensures { Moved ops turn locations.now (length locations.now) grades.old grades.new }
+    ensures { Moved S.ops turn locations.now (length locations.now) grades.old grades.new }
 {
     for l in 0..locations.len() {
         move_root(locations, grades, turn, l);
@@ -32,8 +32,8 @@ pub(crate) fn settle<S: Scale>(locations: &[Location], grades: &mut [S], turn: T
 // Writes a grade into k places from `at` on.
 pub(crate) fn fill<S: Scale>(grades: &mut [S], at: usize, k: usize, grade: S)
     requires { at + k ≤ length grades.old }
-    ensures wrote { (a : ℕ) → a < k → held_from ops grades.new at a ≡ grade }
-    ensures framed { Framed ops at k grades.old grades.new }
+    ensures wrote { (a : ℕ) → a < k → held_from S.ops grades.new at a ≡ grade }
+    ensures framed { Framed S.ops at k grades.old grades.new }
 {
     for a in 0..k {
         grades[at + a] = grade;
@@ -50,7 +50,7 @@ pub(crate) fn begin<S: Scale>(
     requires few { length locations.now ≤ 65536 }
     requires short { count ≤ 512 }
     requires fits { length locations.now * count ≤ length grades.old }
-    ensures { Begun ops boundary locations.now count (length locations.now) grades.old grades.new }
+    ensures { Begun S.ops boundary locations.now count (length locations.now) grades.old grades.new }
 {
     for l in 0..locations.len() {
         let grade = boundary.grade(locations[l].is_final);
@@ -60,7 +60,7 @@ pub(crate) fn begin<S: Scale>(
 
 // Makes the first k grades lowest, or all where there are fewer.
 pub fn clear_front<S: Scale>(grades: &mut [S], k: usize)
-    ensures { grades.new ≡ replicate (min k (length grades.old)) ops.low ++ drop k grades.old }
+    ensures { grades.new ≡ replicate (min k (length grades.old)) S.ops.low ++ drop k grades.old }
 {
     let end = k.min(grades.len());
     fill(grades, 0, end, S::lowest());

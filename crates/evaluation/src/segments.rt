@@ -37,7 +37,7 @@ fn value<S: Scale>(
 ) -> S
     requires turned { Turned automaton.cells.now automaton.locations.now turn (length grades.now) }
     requires inside { k < length automaton.cells.now }
-    ensures { Valued ops automaton.entry.cells.now automaton.entry.locations.now turn clock next grades.now k result }
+    ensures { Valued S.ops automaton.entry.cells.now automaton.entry.locations.now turn clock next grades.now k result }
 {
     let cell = automaton.cells[k];
     match cell {
@@ -113,7 +113,7 @@ pub(crate) fn segment_at<S: Scale>(
     requires turned { Turned automaton.cells.now automaton.locations.now turn (length grades.now) }
     requires inside { root < length automaton.cells.now }
     ensures since { result.since ≡ clock }
-    ensures segmented { Segmented ops automaton.entry.cells.now automaton.entry.locations.now turn grades.now root result }
+    ensures segmented { Segmented S.ops automaton.entry.cells.now automaton.entry.locations.now turn grades.now root result }
 {
     Segment {
         since: clock,

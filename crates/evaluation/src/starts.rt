@@ -15,7 +15,7 @@ use tables::interval::at_most;
 // The place of a start takes the value of its location by a segment.
 fn move_start<S: Scale>(grades: &mut [S], at: usize, segment: Segment<S>)
     requires { at < length grades.old }
-    ensures { grades.new ≡ slice_set grades.old at (ops.join (ops.meet (slice_index_or grades.old at ops.low) segment.high) segment.low) }
+    ensures { grades.new ≡ slice_set grades.old at (S.ops.join (S.ops.meet (slice_index_or grades.old at S.ops.low) segment.high) segment.low) }
 {
     let grade = grades[at].meet(segment.high).join(segment.low);
     grades[at] = grade;
@@ -48,7 +48,7 @@ fn row_starts<S: Scale>(
     requires there { location < length automaton.locations.now }
     requires timed { turn.count ≤ length times.now }
     requires rising { Rising turn.count times.now }
-    ensures { RowDone ops automaton.entry.cells.now automaton.entry.locations.now turn times.now location grades.old grades.new }
+    ensures { RowDone S.ops automaton.entry.cells.now automaton.entry.locations.now turn times.now location grades.old grades.new }
 {
     let root = automaton.locations[location].root as usize;
     let deadline = row_deadline(automaton, turn, location);
@@ -77,7 +77,7 @@ pub(crate) fn starts<S: Scale>(
     requires turned { Turned automaton.cells.now automaton.locations.now turn (length grades.old) }
     requires timed { turn.count ≤ length times.now }
     requires rising { Rising turn.count times.now }
-    ensures { RowsDone ops automaton.entry.cells.now automaton.entry.locations.now turn times.now (length automaton.entry.locations.now) grades.old grades.new }
+    ensures { RowsDone S.ops automaton.entry.cells.now automaton.entry.locations.now turn times.now (length automaton.entry.locations.now) grades.old grades.new }
 {
     for l in 1..automaton.locations.len() {
         row_starts(automaton, times, grades, turn, l);

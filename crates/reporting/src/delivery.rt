@@ -42,7 +42,7 @@ pub(crate) fn deliver(page: &Page, out: &mut [u8]) -> Result<usize, Refusal>
 
 // The run in memory that is lent as a slice.
 fn run_in<L: Log>(rule: &Rule, log: &L, grades: &mut [Doubt]) -> Result<usize, Refusal>
-    ensures { MatchResult result (λ n. RuleRan doubt rule.now (events log.now) n grades.old grades.new) (λ e. Refused (memory_refusal (grades_for rule.now (events log.now)) (length grades.old)) e grades.old grades.new) }
+    ensures { MatchResult result (λ n. RuleRan doubt rule.now (L.events log.now) n grades.old grades.new) (λ e. Refused (memory_refusal (grades_for rule.now (L.events log.now)) (length grades.old)) e grades.old grades.new) }
 {
     let mut table = WorkingTable { grades };
     run(rule, log, &mut table)
@@ -50,7 +50,7 @@ fn run_in<L: Log>(rule: &Rule, log: &L, grades: &mut [Doubt]) -> Result<usize, R
 
 // The listing of a log that a rule grades in the memory that is lent.
 fn graded_listing<L: Log>(rule: &Rule, log: &L, grades: &mut [Doubt]) -> Result<Page, Refusal>
-    ensures { MatchResult result (λ page. (written page ≡ listed_by (events log.now) (meaning.grade doubt (word doubt (events log.now)) (form_of_rule rule.now))) × (memory_for (form_of_rule rule.now) (length (events log.now)) ≤ length grades.old) × ((p : ℕ) → memory_for (form_of_rule rule.now) (length (events log.now)) ≤ p → slice_index_or grades.new p No ≡ slice_index_or grades.old p No)) (λ e. (e ≡ MemoryTooShort) × (length grades.old < memory_for (form_of_rule rule.now) (length (events log.now))) × (grades.new ≡ grades.old)) }
+    ensures { MatchResult result (λ page. (written page ≡ listed_by (L.events log.now) (meaning.grade doubt (word doubt (L.events log.now)) (form_of_rule rule.now))) × (memory_for (form_of_rule rule.now) (length (L.events log.now)) ≤ length grades.old) × ((p : ℕ) → memory_for (form_of_rule rule.now) (length (L.events log.now)) ≤ p → slice_index_or grades.new p No ≡ slice_index_or grades.old p No)) (λ e. (e ≡ MemoryTooShort) × (length grades.old < memory_for (form_of_rule rule.now) (length (L.events log.now))) × (grades.new ≡ grades.old)) }
 {
     run_in(rule, log, grades)?;
     Ok(listing(log, grades))
@@ -74,7 +74,7 @@ pub(crate) fn deliver_graded<L: Log>(
     grades: &mut [Doubt],
     out: &mut [u8],
 ) -> Result<usize, Refusal>
-    ensures { Delivery (listed_by (events log.now) (meaning.grade doubt (word doubt (events log.now)) (form_of_rule rule.now))) (memory_for (form_of_rule rule.now) (length (events log.now))) grades.old grades.new out.old out.new result }
+    ensures { Delivery (listed_by (L.events log.now) (meaning.grade doubt (word doubt (L.events log.now)) (form_of_rule rule.now))) (memory_for (form_of_rule rule.now) (length (L.events log.now))) grades.old grades.new out.old out.new result }
 {
     let used = rule.grades_needed(log.count()).min(grades.len());
     let before = copied(&grades[0..used]);

@@ -10,9 +10,9 @@ use scales::{Doubt, Scale};
 
 // A line for each event, by the grades of the first row.
 fn write_lines<L: Log>(page: &mut Page, log: &L, grades: &[Doubt])
-    requires graded { length (events log.now) ≤ length grades.now }
-    requires room { length (written page.old) + 22 * length (events log.now) ≤ 11275 }
-    ensures { written page.new ≡ written page.old ++ lines (events log.now) (row grades.now) (length (events log.now)) }
+    requires graded { length (L.events log.now) ≤ length grades.now }
+    requires room { length (written page.old) + 22 * length (L.events log.now) ≤ 11275 }
+    ensures { written page.new ≡ written page.old ++ lines (L.events log.now) (row grades.now) (length (L.events log.now)) }
 {
     for before in 0..log.count() {
         let event = before + 1;
@@ -21,8 +21,8 @@ fn write_lines<L: Log>(page: &mut Page, log: &L, grades: &[Doubt])
 }
 
 pub(crate) fn listing<L: Log>(log: &L, grades: &[Doubt]) -> Page
-    requires { length (events log.now) ≤ length grades.now }
-    ensures { written result ≡ listed_by (events log.now) (row grades.now) }
+    requires { length (L.events log.now) ≤ length grades.now }
+    ensures { written result ≡ listed_by (L.events log.now) (row grades.now) }
 {
     let mut page = Bounded::new(0);
     append(&mut page, b"events ");

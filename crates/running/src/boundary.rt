@@ -14,14 +14,14 @@ pub enum Boundary {
 }
 
 pub fn of_test<S: Scale>(holds: bool) -> S
-    ensures { result ≡ test ops holds }
+    ensures { result ≡ test S.ops holds }
 {
     if holds { S::highest() } else { S::lowest() }
 }
 
 impl Boundary {
     pub fn grade<S: Scale>(self, is_final: bool) -> S
-        ensures { result ≡ behind ops self is_final }
+        ensures { result ≡ behind S.ops self is_final }
     {
         match self {
             Boundary::Run => of_test(is_final),

@@ -29,8 +29,8 @@ pub(crate) fn evaluate<S: Scale, L: Log>(
     grades: &mut [S],
 )
     requires sound { Sound cells.now locations.now }
-    requires fits { needed (events log.now) cells.now locations.now ≤ length grades.old }
-    ensures { Evaluated ops (events log.now) cells.now locations.now boundary grades.old grades.new }
+    requires fits { needed (L.events log.now) cells.now locations.now ≤ length grades.old }
+    ensures { Evaluated S.ops (L.events log.now) cells.now locations.now boundary grades.old grades.new }
 {
     let count = log.count();
     let base = locations.len() * count;
@@ -48,7 +48,7 @@ pub(crate) fn run_tables<S: Scale, L: Log>(
 ) -> Result<usize, Refusal>
     requires { Sound cells.now locations.now }
     ensures lent { table.new.grades.ghost_name ≡ table.old.grades.ghost_name }
-    ensures answer { MatchResult result (λ n. Ran ops (events log.now) cells.now locations.now n table.old.grades.now table.new.grades.now) (λ e. Refused (run_refusal (needed (events log.now) cells.now locations.now) (length table.old.grades.now)) e table.old.grades.now table.new.grades.now) }
+    ensures answer { MatchResult result (λ n. Ran S.ops (L.events log.now) cells.now locations.now n table.old.grades.now table.new.grades.now) (λ e. Refused (run_refusal (needed (L.events log.now) cells.now locations.now) (length table.old.grades.now)) e table.old.grades.now table.new.grades.now) }
 {
     let count = log.count();
     if table.grades.len() < memory(cells, locations, count) {
@@ -68,11 +68,11 @@ fn foresee<S: Scale, L: Log>(
     grades: &mut [S],
 ) -> S
     requires sound { Sound cells.now locations.now }
-    requires fits { needed (events log.now) cells.now locations.now ≤ length grades.old }
+    requires fits { needed (L.events log.now) cells.now locations.now ≤ length grades.old }
     requires begun { 0 < event }
-    requires logged { event ≤ length (events log.now) }
-    ensures answer { result ≡ value_over ops (events log.now) cells.now locations.now boundary 0 event event }
-    ensures evaluated { Evaluated ops (events log.now) cells.now locations.now boundary grades.old grades.new }
+    requires logged { event ≤ length (L.events log.now) }
+    ensures answer { result ≡ value_over S.ops (L.events log.now) cells.now locations.now boundary 0 event event }
+    ensures evaluated { Evaluated S.ops (L.events log.now) cells.now locations.now boundary grades.old grades.new }
 {
     evaluate(log, cells, locations, boundary, grades);
     grades[event - 1]
@@ -88,7 +88,7 @@ pub(crate) fn outlook_tables<S: Scale, L: Log>(
 ) -> Result<(S, S), Refusal>
     requires { Sound cells.now locations.now }
     ensures lent { table.new.grades.ghost_name ≡ table.old.grades.ghost_name }
-    ensures answer { MatchResult result (λ pair. Foreseen ops (events log.now) cells.now locations.now event pair table.old.grades.now table.new.grades.now) (λ e. Refused (outlook_refusal (needed (events log.now) cells.now locations.now) (length table.old.grades.now) (length (events log.now)) event) e table.old.grades.now table.new.grades.now) }
+    ensures answer { MatchResult result (λ pair. Foreseen S.ops (L.events log.now) cells.now locations.now event pair table.old.grades.now table.new.grades.now) (λ e. Refused (outlook_refusal (needed (L.events log.now) cells.now locations.now) (length table.old.grades.now) (length (L.events log.now)) event) e table.old.grades.now table.new.grades.now) }
 {
     let count = log.count();
     let need = memory(cells, locations, count);

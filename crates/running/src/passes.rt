@@ -17,11 +17,11 @@ fn start<S: Scale, L: Log>(
     turn: Turn,
     s: usize,
 )
-    requires turned { Turned ops (events log.now) cells.now locations.now turn event.now (length grades.old) }
+    requires turned { Turned S.ops (L.events log.now) cells.now locations.now turn event.now (length grades.old) }
     requires begun { 0 < s }
     requires earlier { s < turn.start }
-    ensures done { StartDone ops (events log.now) cells.now locations.now turn s grades.old grades.new }
-    ensures rest { Rest ops (events log.now) cells.now locations.now turn.fresh grades.old grades.new }
+    ensures done { StartDone S.ops (L.events log.now) cells.now locations.now turn s grades.old grades.new }
+    ensures rest { Rest S.ops (L.events log.now) cells.now locations.now turn.fresh grades.old grades.new }
 {
     let from = Turn {
         start: s,
@@ -42,9 +42,9 @@ fn starts<S: Scale, L: Log>(
     grades: &mut [S],
     turn: Turn,
 )
-    requires { Turned ops (events log.now) cells.now locations.now turn event.now (length grades.old) }
-    ensures done { StartsDone ops (events log.now) cells.now locations.now turn turn.start grades.old grades.new }
-    ensures rest { Rest ops (events log.now) cells.now locations.now turn.fresh grades.old grades.new }
+    requires { Turned S.ops (L.events log.now) cells.now locations.now turn event.now (length grades.old) }
+    ensures done { StartsDone S.ops (L.events log.now) cells.now locations.now turn turn.start grades.old grades.new }
+    ensures rest { Rest S.ops (L.events log.now) cells.now locations.now turn.fresh grades.old grades.new }
 {
     for s in 1..turn.start {
         start(log, event, cells, locations, grades, turn, s);
@@ -61,11 +61,11 @@ fn at_event<S: Scale, L: Log>(
     base: usize,
     i: usize,
 )
-    requires laid { Laid ops (events log.now) cells.now locations.now count base (length grades.old) }
+    requires laid { Laid S.ops (L.events log.now) cells.now locations.now count base (length grades.old) }
     requires begun { 0 < i }
     requires logged { i ≤ count }
-    ensures done { EventDone ops (events log.now) cells.now locations.now count i grades.old grades.new }
-    ensures rest { Rest ops (events log.now) cells.now locations.now base grades.old grades.new }
+    ensures done { EventDone S.ops (L.events log.now) cells.now locations.now count i grades.old grades.new }
+    ensures rest { Rest S.ops (L.events log.now) cells.now locations.now base grades.old grades.new }
 {
     let event = event_of(log, i);
     let turn = Turn {
@@ -89,9 +89,9 @@ pub(crate) fn backward<S: Scale, L: Log>(
     count: usize,
     base: usize,
 )
-    requires { Laid ops (events log.now) cells.now locations.now count base (length grades.old) }
-    ensures done { EventsDone ops (events log.now) cells.now locations.now count 0 grades.old grades.new }
-    ensures rest { Rest ops (events log.now) cells.now locations.now base grades.old grades.new }
+    requires { Laid S.ops (L.events log.now) cells.now locations.now count base (length grades.old) }
+    ensures done { EventsDone S.ops (L.events log.now) cells.now locations.now count 0 grades.old grades.new }
+    ensures rest { Rest S.ops (L.events log.now) cells.now locations.now base grades.old grades.new }
 {
     let mut i = count;
     while i > 0 {

@@ -22,7 +22,7 @@ pub fn run<S: Scale, L: Log>(
     table: &mut WorkingTable<'_, S>,
 ) -> Result<usize, Refusal>
     ensures lent { table.new.grades.ghost_name ≡ table.old.grades.ghost_name }
-    ensures answer { MatchResult result (λ n. RuleRan ops rule.now (events log.now) n table.old.grades.now table.new.grades.now) (λ e. Refused (run_refusal (grades_for rule.now (events log.now)) (length table.old.grades.now)) e table.old.grades.now table.new.grades.now) }
+    ensures answer { MatchResult result (λ n. RuleRan S.ops rule.now (L.events log.now) n table.old.grades.now table.new.grades.now) (λ e. Refused (run_refusal (grades_for rule.now (L.events log.now)) (length table.old.grades.now)) e table.old.grades.now table.new.grades.now) }
 {
     run_tables(log, rule.cells(), rule.locations(), table)
 }
@@ -35,7 +35,7 @@ pub fn outlook<S: Scale, L: Log>(
     table: &mut WorkingTable<'_, S>,
 ) -> Result<(S, S), Refusal>
     ensures lent { table.new.grades.ghost_name ≡ table.old.grades.ghost_name }
-    ensures answer { MatchResult result (λ pair. RuleSeen ops rule.now (events log.now) event pair table.old.grades.now table.new.grades.now) (λ e. Refused (outlook_refusal (grades_for rule.now (events log.now)) (length table.old.grades.now) (length (events log.now)) event) e table.old.grades.now table.new.grades.now) }
+    ensures answer { MatchResult result (λ pair. RuleSeen S.ops rule.now (L.events log.now) event pair table.old.grades.now table.new.grades.now) (λ e. Refused (outlook_refusal (grades_for rule.now (L.events log.now)) (length table.old.grades.now) (length (L.events log.now)) event) e table.old.grades.now table.new.grades.now) }
 {
     outlook_tables(log, rule.cells(), rule.locations(), event, table)
 }
@@ -43,7 +43,7 @@ pub fn outlook<S: Scale, L: Log>(
 // Whether an outlook's floor and ceiling are one grade. Then the verdict is final: whatever comes next, that is the grade.
 pub fn is_settled<S: Scale>(floor: S, ceiling: S) -> bool
     ensures same { Decides result (floor ≡ ceiling) }
-    ensures settled { (es whole : List Event) (f : Form) (event : ℕ) → RuleForeseen ops es f event (floor, ceiling) → result ≡ true → LawfulContinuation es whole → grade ops (word ops whole) f event ≡ floor }
+    ensures settled { (es whole : List Event) (f : Form) (event : ℕ) → RuleForeseen S.ops es f event (floor, ceiling) → result ≡ true → LawfulContinuation es whole → grade S.ops (word S.ops whole) f event ≡ floor }
 {
     floor.shown() == ceiling.shown()
 }

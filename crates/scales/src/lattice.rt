@@ -6,6 +6,6 @@ use crate::scale::Scale;
 
 // What follows from the laws, on every scale: the order, its bounds, and the scale upside down.
 pub fn lattice<S: Scale>()
-    ensures facts { Lattice ops }
-    ensures upside_down { Laws (dual ops) }
+    ensures facts { Lattice S.ops }
+    ensures upside_down { Laws (dual S.ops) }
 {}

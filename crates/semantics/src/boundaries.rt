@@ -10,10 +10,10 @@ pub fn relational<S: Scale, T: Scale>()
 
 // Values grow with their boundary.
 pub fn monotone<S: Scale>()
-    ensures { Monotone ops }
+    ensures { Monotone S.ops }
 {}
 
 // The value on a continuation is that on the events before the cut, given what the continuation has one event later.
 pub fn cut<S: Scale>()
-    ensures { Cut ops }
+    ensures { Cut S.ops }
 {}

@@ -7,7 +7,7 @@ impl Rule {
     // On every scale and every list of events: the normal form has the grade of the rule as it is written, and the
     // automaton that the cells and locations stand for computes it, wherever times never fall.
     pub fn means<S: Scale>(&self)
-        ensures normal { NormalMeans ops self.now }
-        ensures automaton { AutomatonMeans ops self.now }
+        ensures normal { NormalMeans S.ops self.now }
+        ensures automaton { AutomatonMeans S.ops self.now }
     {}
 }

@@ -26,9 +26,9 @@ returns-then-grades-automaton g c =
       unchanged = refl;
     }
 
-pub evaluate-tables-requires : goal.evaluate-tables-requires
-evaluate-tables-requires g c =
-    let T = tabulated g (goal.at.evaluate-tables-requires g c).After-count-count in
+pub evaluate_tables-requires : goal.evaluate_tables-requires
+evaluate_tables-requires g c =
+    let T = tabulated g (goal.at.evaluate_tables-requires g c).After-count-count in
     record {
       sound = tables_sound (normal_form c.args.rule.now) _ _ T;
       counted = c.count-count.ensures;
@@ -40,4 +40,4 @@ returns g c =
     let es = g.L.Log.events c.args.log.now in
     let T = tabulated g (goal.at.returns g c).After-count-count in
     let fits : needed es c.cells.result.now c.locations.result.now ≤ length c.args.grades.now = omega (arith, ap (λ n. length c.locations.result.now * n) c.count-count.ensures) in
-    rule_evaluated c.args.rule.now es _ _ T g.S.Scale.ops c.args.boundary c.count-count.result c.args.grades.now c.evaluate-tables.new.grades c.count-count.ensures fits c.evaluate-tables.ensures
+    rule_evaluated c.args.rule.now es _ _ T g.S.Scale.ops c.args.boundary c.count-count.result c.args.grades.now c.evaluate_tables.new.grades c.count-count.ensures fits c.evaluate_tables.ensures

@@ -21,13 +21,13 @@ returns g c =
     let turned = c.requires.turned in
     let timed = c.requires.timed in
     let told =
-    event_told es (g.L.Log.lawful c.args.log.now) t.count t.at timed.counted turned.begun turned.logged c.event-of-event.result
-    c.event-of-event.ensures in
+    event_told es (g.L.Log.lawful c.args.log.now) t.count t.at timed.counted turned.begun turned.logged c.event_of-event.result
+    c.event_of-event.ensures in
     record {
       done =
-          event_done _ _ t _ turned S es c.args.times.now timed c.event-of-event.result told
+          event_done _ _ t _ turned S es c.args.times.now timed c.event_of-event.result told
           c.args.grades.now c.column.new.grades c.starts.new.grades c.settle.new.grades c.column.ensures.graded c.column.ensures.framed c.starts.ensures c.settle.ensures;
       rest =
-          event_rest _ _ t _ turned S es c.args.times.now timed c.event-of-event.result told
+          event_rest _ _ t _ turned S es c.args.times.now timed c.event_of-event.result told
           c.args.grades.now c.column.new.grades c.starts.new.grades c.settle.new.grades c.column.ensures.graded c.column.ensures.framed c.starts.ensures c.settle.ensures;
     }

@@ -7,9 +7,9 @@ loop-at-preserved g c =
     let back : c.loop-at.at ≡ suc (c.loop-at.at - 1) = omega arith in (
       omega arith,
       λ over settled.
-          subst (λ i. Settled g.S.Scale.ops (g.L.Log.events c.args.log.now) c.args.automaton.cells.now c.args.automaton.locations.now over c.args.count i c.at-event.new.grades) back
-          (c.at-event.ensures.done over (c.loop-at.invariant.1 over settled)),
-      λ p h. c.at-event.ensures.rest p h ∙ c.loop-at.invariant.2 p h,
+          subst (λ i. Settled g.S.Scale.ops (g.L.Log.events c.args.log.now) c.args.automaton.cells.now c.args.automaton.locations.now over c.args.count i c.at_event.new.grades) back
+          (c.at_event.ensures.done over (c.loop-at.invariant.1 over settled)),
+      λ p h. c.at_event.ensures.rest p h ∙ c.loop-at.invariant.2 p h,
     )
 
 pub returns : goal.returns

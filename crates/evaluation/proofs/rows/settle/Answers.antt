@@ -9,4 +9,4 @@ loop-l-preserved g c =
     let locations = c.args.locations.now in
     moved_more g.S.Scale.ops t locations c.loop-l.l c.args.grades.now c.loop-l.grades
     (subst (λ n. Rooted t locations n) (sym c.loop-l.auto.grades) c.requires) c.loop-l-test.true c.loop-l.invariant
-    c.move-root.new.grades c.move-root.ensures
+    c.move_root.new.grades c.move_root.ensures

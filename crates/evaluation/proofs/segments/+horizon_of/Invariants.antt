@@ -1,4 +1,4 @@
 use Rattle.evaluation.proofs.segments.+horizon_of.Given as goal
 
-abbrev pub decreases-horizon-of : goal.decreases-horizon-of
-decreases-horizon-of l = l.k
+abbrev pub decreases-horizon_of : goal.decreases-horizon_of
+decreases-horizon_of l = l.k

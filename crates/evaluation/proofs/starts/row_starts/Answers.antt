@@ -6,10 +6,10 @@ use Rattle.evaluation.proofs.starts.row_starts.Goals as goal
 use Rattle.evaluation.proofs.starts.row_starts.Goals.{then-not-at-most-2, else-not-at-most-2}
 
 pub loop-s-init : goal.loop-s-init
-loop-s-init g c = (c.requires.turned.begun, omega arith, reached_none g.S.Scale.ops g.met.S.Scale.laws _ _ c.args.turn _ c.requires.turned c.args.times.now c.args.location c.requires.there c.args.grades.now, c.segment-at-segment.ensures.segmented, omega (arith, c.segment-at-segment.ensures.since))
+loop-s-init g c = (c.requires.turned.begun, omega arith, reached_none g.S.Scale.ops g.met.S.Scale.laws _ _ c.args.turn _ c.requires.turned c.args.times.now c.args.location c.requires.there c.args.grades.now, c.segment_at-segment.ensures.segmented, omega (arith, c.segment_at-segment.ensures.since))
 
-pub move-start-requires : goal.move-start-requires
-move-start-requires g c =
+pub move_start-requires : goal.move_start-requires
+move_start-requires g c =
     let laid = c.requires.turned.laid in
     let some = c.loop-s-test.true in
     let order = c.loop-s.invariant.1 in
@@ -27,41 +27,41 @@ loop-s-preserved g c =
     let s = c.loop-s.s in
     let old = c.args.grades.now in
     let gs = c.loop-s.grades in
-    let clock = c.saturating-sub-clock.result in
+    let clock = c.saturating_sub-clock.result in
     let turned = c.requires.turned in
     let reached = c.loop-s.invariant.2 in
-    let fitting : Fitting S laws cells locations t (length old) turned times l c.requires.there old clock c.if-not-at-most-2.segment =
-    elim c.if-not-at-most-2.branch [
+    let fitting : Fitting S laws cells locations t (length old) turned times l c.requires.there old clock c.if-not-at_most-2.segment =
+    elim c.if-not-at_most-2.branch [
       | then-not-at-most-2 w ↦
-          let made = w.segment-at-segment-then-not-at-most-2 in
+          let made = w.segment_at-segment-then-not-at_most-2 in
           subst (Fitting S laws cells locations t (length old) turned times l c.requires.there old clock) (sym w.segment-is)
           (fitting_new S laws cells locations t (length old) turned times l c.requires.there s old gs clock made.result c.loop-s.invariant.0 c.loop-s.invariant.1 reached made.ensures.since made.ensures.segmented)
       | else-not-at-most-2 w ↦
           subst (Fitting S laws cells locations t (length old) turned times l c.requires.there old clock) (sym w.segment-is) (record {
             segmented = c.loop-s.invariant.3;
-            since = clock_rises times t.count s t.at c.loop-s.segment.since clock c.requires.rising c.loop-s-test.true c.loop-s.invariant.1 turned.logged c.loop-s.invariant.4 c.saturating-sub-clock.ensures;
-            until = sym c.at-most-in-loop-s.ensures ∙ w.if-not-at-most-2.false;
+            since = clock_rises times t.count s t.at c.loop-s.segment.since clock c.requires.rising c.loop-s-test.true c.loop-s.invariant.1 turned.logged c.loop-s.invariant.4 c.saturating_sub-clock.ensures;
+            until = sym c.at_most-in-loop-s.ensures ∙ w.if-not-at_most-2.false;
           })
     ] in
     let back : get_or times (s - 1 - 1) 0 ≡ get_or times (s - 2) 0 = ap (λ k. get_or times k 0) (omega arith) in (
       omega arith,
       omega arith,
-      reached_more S laws cells locations t (length old) turned times l c.requires.there (s - 1) s clock c.place.result c.if-not-at-most-2.segment
-          old gs c.move-start.new.grades (omega arith) (omega arith) c.loop-s.invariant.1 c.loop-s.auto.grades c.place.ensures
-          (clocked S times s t.at t.count clock (omega arith) c.loop-s.invariant.1 turned.logged c.saturating-sub-clock.ensures)
-          fitting reached c.move-start.ensures,
+      reached_more S laws cells locations t (length old) turned times l c.requires.there (s - 1) s clock c.place.result c.if-not-at_most-2.segment
+          old gs c.move_start.new.grades (omega arith) (omega arith) c.loop-s.invariant.1 c.loop-s.auto.grades c.place.ensures
+          (clocked S times s t.at t.count clock (omega arith) c.loop-s.invariant.1 turned.logged c.saturating_sub-clock.ensures)
+          fitting reached c.move_start.ensures,
       fitting.segmented,
-      omega (arith, fitting.since, c.saturating-sub-clock.ensures),
+      omega (arith, fitting.since, c.saturating_sub-clock.ensures),
     )
 
-pub returns-then-not-at-most : goal.returns-then-not-at-most
-returns-then-not-at-most g c =
+pub returns-then-not-at_most : goal.returns-then-not-at_most
+returns-then-not-at_most g c =
     let S = g.S.Scale.ops in
     let s = c.loop-s.s in
-    reached_passed S g.met.S.Scale.laws _ _ c.args.turn _ c.requires.turned c.args.times.now c.args.location c.requires.there s c.saturating-sub-clock.result
-    (upper_of c.row-deadline-deadline.result) c.args.grades.now c.loop-s.grades (omega arith) c.loop-s.invariant.1 c.row-deadline-deadline.ensures
-    (sym c.at-most.ensures ∙ c.if-not-at-most.true)
-    (clocked S c.args.times.now s c.args.turn.at c.args.turn.count c.saturating-sub-clock.result (omega arith) c.loop-s.invariant.1 c.requires.turned.logged c.saturating-sub-clock.ensures)
+    reached_passed S g.met.S.Scale.laws _ _ c.args.turn _ c.requires.turned c.args.times.now c.args.location c.requires.there s c.saturating_sub-clock.result
+    (upper_of c.row_deadline-deadline.result) c.args.grades.now c.loop-s.grades (omega arith) c.loop-s.invariant.1 c.row_deadline-deadline.ensures
+    (sym c.at_most.ensures ∙ c.if-not-at_most.true)
+    (clocked S c.args.times.now s c.args.turn.at c.args.turn.count c.saturating_sub-clock.result (omega arith) c.loop-s.invariant.1 c.requires.turned.logged c.saturating_sub-clock.ensures)
     c.loop-s.invariant.2
 
 pub returns : goal.returns

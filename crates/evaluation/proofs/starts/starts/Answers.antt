@@ -8,7 +8,7 @@ loop-l-init g c = rows_none g.S.Scale.ops _ _ c.args.turn _ c.requires.turned c.
 
 pub loop-l-preserved : goal.loop-l-preserved
 loop-l-preserved g c =
-    rows_more g.S.Scale.ops _ _ c.args.turn _ c.requires.turned c.args.times.now c.loop-l.l c.args.grades.now c.loop-l.grades c.row-starts.new.grades c.loop-l-test.true c.loop-l.invariant c.row-starts.ensures
+    rows_more g.S.Scale.ops _ _ c.args.turn _ c.requires.turned c.args.times.now c.loop-l.l c.args.grades.now c.loop-l.grades c.row_starts.new.grades c.loop-l-test.true c.loop-l.invariant c.row_starts.ensures
 
 pub returns : goal.returns
 returns g c =

@@ -5,8 +5,8 @@ use Rattle.grammar.proofs.symbol.skipped.Goals as goal
 pub loop-rest-preserved : goal.loop-rest-preserved
 loop-rest-preserved c = skip_space _ (omega (arith, ltb-true, ltb-false)) (omega arith) ∙ c.loop-rest.invariant
 
-pub returns-in-default : goal.returns-in-default
-returns-in-default c = sym (skip_none _ (omega (arith, ltb-true, ltb-false))) ∙ c.loop-rest.invariant
+pub returns-in_default : goal.returns-in_default
+returns-in_default c = sym (skip_none _ (omega (arith, ltb-true, ltb-false))) ∙ c.loop-rest.invariant
 
-pub returns-in-default·2 : goal.returns-in-default·2
-returns-in-default·2 c = sym (skip_other _ (omega (arith, ltb-true, ltb-false)) (omega arith)) ∙ c.loop-rest.invariant
+pub returns-in_default·2 : goal.returns-in_default·2
+returns-in_default·2 c = sym (skip_other _ (omega (arith, ltb-true, ltb-false)) (omega arith)) ∙ c.loop-rest.invariant

@@ -11,7 +11,7 @@ returns-in-Nothing t c = record {
 
 pub returns-in-One : goal.returns-in-One
 returns-in-One t c =
-    let a = c.depth-at.ensures in
+    let a = c.depth_at.ensures in
     let w = subst (Below c.args.form) (sym c.in-One.ensures) (c.requires.0 c.args.form c.requires.1) in
     record {
       is = ap (λ k. k + 1) a.is ∙ sym (depth_there _ c.requires.0 _ c.requires.1 ∙ ap (depth_over _) (sym c.in-One.ensures));
@@ -20,8 +20,8 @@ returns-in-One t c =
 
 pub returns-in-Two : goal.returns-in-Two
 returns-in-Two t c =
-    let a = c.depth-at-in-Two.ensures in
-    let b = c.depth-at-in-Two-2.ensures in
+    let a = c.depth_at-in-Two.ensures in
+    let b = c.depth_at-in-Two-2.ensures in
     let w = subst (Below c.args.form) (sym c.in-Two.ensures) (c.requires.0 c.args.form c.requires.1) in
     record {
       is = ap (λ k. k + 1) (c.max.ensures ∙ ap₂ max a.is b.is) ∙ sym (depth_there _ c.requires.0 _ c.requires.1 ∙ ap (depth_over _) (sym c.in-Two.ensures));

@@ -10,14 +10,14 @@ use Rattle.limits.proofs.intervals.all_proper.Goals.{in-Some+else-not-is-proper,
 pub loop-node-init : goal.loop-node-init
 loop-node-init c = every_none proper
 
-pub returns-then-not-is-proper : goal.returns-then-not-is-proper
-returns-then-not-is-proper c =
-    sym (every_fails proper _ _ Top c.loop-node-test.true (ap (passes proper) (sym c.in-Some.ensures) ∙ sym c.if-not-is-proper.ensures))
+pub returns-then-not-is_proper : goal.returns-then-not-is_proper
+returns-then-not-is_proper c =
+    sym (every_fails proper _ _ Top c.loop-node-test.true (ap (passes proper) (sym c.in-Some.ensures) ∙ sym c.if-not-is_proper.ensures))
 
 pub loop-node-preserved : goal.loop-node-preserved
-loop-node-preserved c = every_more proper _ _ Top c.loop-node-test.true c.loop-node.invariant (elim c.match-interval-in.branch [
-  | in-Some+else-not-is-proper w ↦ ap (passes proper) (sym w.in-Some.ensures) ∙ sym w.is-proper.ensures ∙ w.if-not-is-proper.false
-  | in-default w ↦ ap (passes proper) (sym c.node_interval.ensures ∙ w.in-default.is)
+loop-node-preserved c = every_more proper _ _ Top c.loop-node-test.true c.loop-node.invariant (elim c.match-interval_in.branch [
+  | in-Some+else-not-is-proper w ↦ ap (passes proper) (sym w.in-Some.ensures) ∙ sym w.is_proper.ensures ∙ w.if-not-is_proper.false
+  | in-default w ↦ ap (passes proper) (sym c.node_interval.ensures ∙ w.in_default.is)
 ])
 
 pub returns : goal.returns

@@ -10,14 +10,14 @@ use Rattle.limits.proofs.intervals.all_small.Goals.{in-Some+else-not-is-small, i
 pub loop-node-init : goal.loop-node-init
 loop-node-init c = every_none small
 
-pub returns-then-not-is-small : goal.returns-then-not-is-small
-returns-then-not-is-small c =
-    sym (every_fails small _ _ Top c.loop-node-test.true (ap (passes small) (sym c.in-Some.ensures) ∙ sym c.if-not-is-small.ensures))
+pub returns-then-not-is_small : goal.returns-then-not-is_small
+returns-then-not-is_small c =
+    sym (every_fails small _ _ Top c.loop-node-test.true (ap (passes small) (sym c.in-Some.ensures) ∙ sym c.if-not-is_small.ensures))
 
 pub loop-node-preserved : goal.loop-node-preserved
-loop-node-preserved c = every_more small _ _ Top c.loop-node-test.true c.loop-node.invariant (elim c.match-interval-in.branch [
-  | in-Some+else-not-is-small w ↦ ap (passes small) (sym w.in-Some.ensures) ∙ sym w.is-small.ensures ∙ w.if-not-is-small.false
-  | in-default w ↦ ap (passes small) (sym c.node_interval.ensures ∙ w.in-default.is)
+loop-node-preserved c = every_more small _ _ Top c.loop-node-test.true c.loop-node.invariant (elim c.match-interval_in.branch [
+  | in-Some+else-not-is-small w ↦ ap (passes small) (sym w.in-Some.ensures) ∙ sym w.is_small.ensures ∙ w.if-not-is_small.false
+  | in-default w ↦ ap (passes small) (sym c.node_interval.ensures ∙ w.in_default.is)
 ])
 
 pub returns : goal.returns

@@ -14,8 +14,8 @@ returns-in-0 c = record { f = bottom; reads = is_zero (omega arith); is = writte
 pub returns-in-a-to-p : goal.returns-in-a-to-p
 returns-in-a-to-p c = record { f = fact _; reads = is_fact (omega arith) (omega arith); is = written_fact _ }
 
-pub returns-in-default : goal.returns-in-default
-returns-in-default c = λ f h. no_plain (omega arith) (omega arith) (omega arith) h
+pub returns-in_default : goal.returns-in_default
+returns-in_default c = λ f h. no_plain (omega arith) (omega arith) (omega arith) h
 
-pub returns-in-default·2 : goal.returns-in-default·2
-returns-in-default·2 c = λ f h. no_plain (omega arith) (omega arith) (omega arith) h
+pub returns-in_default·2 : goal.returns-in_default·2
+returns-in_default·2 c = λ f h. no_plain (omega arith) (omega arith) (omega arith) h

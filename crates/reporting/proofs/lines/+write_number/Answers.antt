@@ -5,8 +5,8 @@ use Rattle.reporting.specs.Pages.{written}
 use Rattle.reporting.proofs.lines.+write_number.Goals as goal
 use Rattle.reporting.proofs.lines.+write_number.Goals.{then-n-ge10, else-n-ge10}
 
-pub write-number-requires : goal.write-number-requires
-write-number-requires t c =
+pub write_number-requires : goal.write_number-requires
+write_number-requires t c =
     let n = c.args.n in
     let step = ap length (decimal_step n c.if-n-ge10.true c.ranges.n.fits) in
     (search rules, omega (arith, c.requires, step, length_push (decimal (n / 10)) (48 + n % 10)))
@@ -25,7 +25,7 @@ append-requires t c =
               ap (λ b. length (written b)) w.bytes-is,
               step,
               length_push (decimal (n / 10)) (48 + n % 10),
-              ap length w.write-number.ensures,
+              ap length w.write_number.ensures,
               length-append old (decimal (n / 10)),
             )
         | else-n-ge10 w ↦ omega (arith, c.requires, ap (λ b. length (written b)) w.bytes-is, ap length (decimal_digit n w.if-n-ge10.false))
@@ -38,7 +38,7 @@ returns t c =
     let old = written c.args.bytes.now in
     elim c.if-n-ge10.branch [
       | then-n-ge10 w ↦
-          c.append.ensures ∙ ap (λ b. written b ++ ((48 + n % 10) ∷ [])) w.bytes-is ∙ ap (λ xs. xs ++ ((48 + n % 10) ∷ [])) w.write-number.ensures
+          c.append.ensures ∙ ap (λ b. written b ++ ((48 + n % 10) ∷ [])) w.bytes-is ∙ ap (λ xs. xs ++ ((48 + n % 10) ∷ [])) w.write_number.ensures
           ∙ append_assoc old (decimal (n / 10)) ((48 + n % 10) ∷ []) ∙ ap (λ xs. old ++ xs) (sym (decimal_step n w.if-n-ge10.true c.ranges.n.fits))
       | else-n-ge10 w ↦
           let small : n % 10 ≡ n = omega (arith, w.if-n-ge10.false) in

@@ -4,9 +4,9 @@ use Rattle.reporting.specs.Listing.{field}
 use Rattle.reporting.specs.Pages.{written}
 use Rattle.reporting.proofs.lines.write_field.Goals as goal
 
-pub write-number-requires : goal.write-number-requires
+pub write_number-requires : goal.write_number-requires
 unfolding field
-write-number-requires c = omega (arith, c.requires, length_push (decimal c.args.n) c.args.end)
+write_number-requires c = omega (arith, c.requires, length_push (decimal c.args.n) c.args.end)
 
 pub append-requires : goal.append-requires
 unfolding field
@@ -16,7 +16,7 @@ append-requires c = (
     arith,
     c.requires,
     length_push (decimal c.args.n) c.args.end,
-    ap length c.write-number.ensures,
+    ap length c.write_number.ensures,
     length-append (written c.args.bytes.now) (decimal c.args.n),
   ),
 )
@@ -24,5 +24,5 @@ append-requires c = (
 pub returns : goal.returns
 unfolding field
 returns c =
-    c.append.ensures ∙ ap (λ xs. xs ++ (c.args.end ∷ [])) c.write-number.ensures
+    c.append.ensures ∙ ap (λ xs. xs ++ (c.args.end ∷ [])) c.write_number.ensures
     ∙ append_assoc (written c.args.bytes.now) (decimal c.args.n) (c.args.end ∷ [])

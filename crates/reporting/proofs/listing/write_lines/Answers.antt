@@ -12,8 +12,8 @@ pub loop-before-init : goal.loop-before-init
 unfolding lines
 loop-before-init g c = sym (append-nil (written c.args.page.now))
 
-pub write-line-requires : goal.write-line-requires
-write-line-requires g c =
+pub write_line-requires : goal.write_line-requires
+write_line-requires g c =
     let es = g.L.Log.events c.args.log.now in
     let laws = g.L.Log.lawful c.args.log.now in
     let gs = c.args.grades.now in
@@ -26,7 +26,7 @@ write-line-requires g c =
       ap length c.loop-before.invariant,
       length-append (written c.args.page.now) (lines es (row gs) k),
       lines_short es laws (row gs) k (omega arith),
-      line_short (k + 1) c.time.result c.shown.result (omega arith) (omega (arith, c.time.ensures, time_within es laws k here)) (omega (arith, c.shown.type-inv)),
+      line_short (k + 1) c.time.result c.shown.result (omega arith) (omega (arith, c.time.ensures, time_within es laws k here)) (omega (arith, c.shown.type_inv)),
     )
 
 pub loop-before-preserved : goal.loop-before-preserved
@@ -38,7 +38,7 @@ loop-before-preserved g c =
     let place : k ≡ k + 1 - 1 = omega arith in
     let shown : c.shown.result ≡ doubt.shown (row gs (k + 1)) = c.shown.ensures ∙ ap (λ i. doubt.shown (get_or gs i No)) place in
     let here = line (k + 1) (event_at es (k + 1)).time (doubt.shown (row gs (k + 1))) in
-    c.write-line.ensures ∙ ap₂ (λ t s. written c.loop-before.page ++ line (k + 1) t s) c.time.ensures shown
+    c.write_line.ensures ∙ ap₂ (λ t s. written c.loop-before.page ++ line (k + 1) t s) c.time.ensures shown
     ∙ ap (λ xs. xs ++ here) c.loop-before.invariant ∙ append_assoc old (lines es (row gs) k) here ∙ ap (λ xs. old ++ xs) (sym (lines_more es (row gs) k))
 
 pub returns : goal.returns

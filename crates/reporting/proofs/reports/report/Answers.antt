@@ -24,10 +24,10 @@ returns-in-Ok-open c =
     let told : file_events c.over.result.below ≡ es =
     ap file_events c.over.ensures ∙ c.log.ensures.meaning es laws (encoded ∙ sym opened.0) in
     let old = c.args.grades.now in
-    let new = c.deliver-graded.new.grades in
+    let new = c.deliver_graded.new.grades in
     let before = c.args.out.now in
-    let after = c.deliver-graded.new.out in
-    let r = c.deliver-graded.result in
+    let after = c.deliver_graded.new.out in
+    let r = c.deliver_graded.result in
     record {
       bytes = listing f es;
       goal = memory_for f (length es);
@@ -36,7 +36,7 @@ returns-in-Ok-open c =
           subst (λ (n : ℕ). Delivery (listing f es) (memory_for f n) old new before after r) (length-rebased es)
           (subst (λ (xs : List Event). Delivery (listing f xs) (memory_for f (length (rebased xs))) old new before after r) told
           (subst (λ (h : Form). Delivery (listing h (file_events c.over.result.below)) (memory_for h (length (rebased (file_events c.over.result.below)))) old new before after r) loaded.source
-          c.deliver-graded.ensures));
+          c.deliver_graded.ensures));
     }
 
 pub returns-in-Err-open : goal.returns-in-Err-open
@@ -49,8 +49,8 @@ returns-in-Err-open c =
       goal = 0;
       reports = no_file loaded.answer broken.1;
       delivery =
-          delivered_page (written c.refusal-line.result) (refused_line 9) c.args.grades.now c.args.out.now c.deliver.new.out
-          c.deliver.result (c.refusal-line.ensures ∙ ap refused_line nine) c.deliver.ensures;
+          delivered_page (written c.refusal_line.result) (refused_line 9) c.args.grades.now c.args.out.now c.deliver.new.out
+          c.deliver.result (c.refusal_line.ensures ∙ ap refused_line nine) c.deliver.ensures;
     }
 
 pub returns-in-Err : goal.returns-in-Err
@@ -61,6 +61,6 @@ returns-in-Err c =
       goal = 0;
       reports = no_rule c.in-Err.ensures (number_positive c.in-Err.refusal);
       delivery =
-          delivered_page (written c.refusal-line-in-Err.result) (refused_line number) c.args.grades.now c.args.out.now c.deliver-in-Err.new.out
-          c.deliver-in-Err.result (c.refusal-line-in-Err.ensures ∙ ap refused_line c.number-in-Err.ensures) c.deliver-in-Err.ensures;
+          delivered_page (written c.refusal_line-in-Err.result) (refused_line number) c.args.grades.now c.args.out.now c.deliver-in-Err.new.out
+          c.deliver-in-Err.result (c.refusal_line-in-Err.ensures ∙ ap refused_line c.number-in-Err.ensures) c.deliver-in-Err.ensures;
     }

@@ -9,8 +9,8 @@ below g c =
     let n = length (g.L.Log.events c.args.log.now) in
     omega (arith, place_below 0 n c.args.event (length c.args.locations.now) c.requires.sound.initial c.requires.begun c.requires.logged, c.evaluate.auto.grades)
 
-pub offset-bounds-grades-event : goal.offset-bounds-grades-event
-offset-bounds-grades-event g c = let h : c.args.event - 1 < length c.evaluate.new.grades = below g (goal.at.offset-bounds-grades-event g c).After-evaluate in search rules
+pub offset_bounds-grades-event : goal.offset_bounds-grades-event
+offset_bounds-grades-event g c = let h : c.args.event - 1 < length c.evaluate.new.grades = below g (goal.at.offset_bounds-grades-event g c).After-evaluate in search rules
 
 pub bounds-grades-event : goal.bounds-grades-event
 bounds-grades-event g c = below g (goal.at.bounds-grades-event g c).After-evaluate

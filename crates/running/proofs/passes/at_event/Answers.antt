@@ -16,8 +16,8 @@ starts-requires g c =
       started = c.requires.begun;
       logged = c.requires.logged;
       told =
-          event_told es (g.L.Log.lawful c.args.log.now) c.args.count c.args.i c.requires.laid.counted c.requires.begun c.requires.logged c.event-of-event.result
-          c.event-of-event.ensures;
+          event_told es (g.L.Log.lawful c.args.log.now) c.args.count c.args.i c.requires.laid.counted c.requires.begun c.requires.logged c.event_of-event.result
+          c.event_of-event.ensures;
     }
 
 pub returns : goal.returns
@@ -28,15 +28,15 @@ returns g c =
     let locations = c.args.locations.now in
     let m = length c.args.grades.now in
     let told =
-    event_told es (g.L.Log.lawful c.args.log.now) c.args.count c.args.i c.requires.laid.counted c.requires.begun c.requires.logged c.event-of-event.result
-    c.event-of-event.ensures in
+    event_told es (g.L.Log.lawful c.args.log.now) c.args.count c.args.i c.requires.laid.counted c.requires.begun c.requires.logged c.event_of-event.result
+    c.event_of-event.ensures in
     record {
       done =
-          event_done S es cells locations c.args.count c.args.base m c.args.i c.event-of-event.result c.requires.laid c.requires.begun c.requires.logged told
+          event_done S es cells locations c.args.count c.args.base m c.args.i c.event_of-event.result c.requires.laid c.requires.begun c.requires.logged told
           c.args.grades.now c.column.new.grades c.starts.new.grades c.settle.new.grades c.column.ensures.graded c.column.ensures.framed c.settle.ensures
           c.starts.ensures.done;
       rest =
-          event_rest S es cells locations c.args.count c.args.base m c.args.i c.event-of-event.result c.requires.laid c.requires.begun c.requires.logged told
+          event_rest S es cells locations c.args.count c.args.base m c.args.i c.event_of-event.result c.requires.laid c.requires.begun c.requires.logged told
           c.args.grades.now c.column.new.grades c.starts.new.grades c.settle.new.grades c.column.ensures.graded c.column.ensures.framed c.settle.ensures
           c.starts.ensures.rest;
     }

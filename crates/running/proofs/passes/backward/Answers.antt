@@ -7,9 +7,9 @@ loop-i-preserved g c =
     let back : c.loop-i.i ≡ suc (c.loop-i.i - 1) = omega arith in (
       omega arith,
       λ over settled.
-          subst (λ i. Settled g.S.Scale.ops (g.L.Log.events c.args.log.now) c.args.cells.now c.args.locations.now over c.args.count i c.at-event.new.grades) back
-          (c.at-event.ensures.done over (c.loop-i.invariant.1 over settled)),
-      λ p h. c.at-event.ensures.rest p h ∙ c.loop-i.invariant.2 p h,
+          subst (λ i. Settled g.S.Scale.ops (g.L.Log.events c.args.log.now) c.args.cells.now c.args.locations.now over c.args.count i c.at_event.new.grades) back
+          (c.at_event.ensures.done over (c.loop-i.invariant.1 over settled)),
+      λ p h. c.at_event.ensures.rest p h ∙ c.loop-i.invariant.2 p h,
     )
 
 pub returns : goal.returns

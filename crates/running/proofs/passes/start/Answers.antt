@@ -18,12 +18,12 @@ returns g c =
     let e = c.args.event.now in
     let m = length c.args.grades.now in
     let time = ap (λ (x : Event). x.time) c.requires.turned.told in
-    let clocked : c.saturating-sub.result ≡ elapsed (word S es) c.args.s t.start = omega (arith, time, c.time.ensures, c.saturating-sub.ensures) in
+    let clocked : c.saturating_sub.result ≡ elapsed (word S es) c.args.s t.start = omega (arith, time, c.time.ensures, c.saturating_sub.ensures) in
     record {
       done =
-          start_done S es cells locations t e m c.args.s c.saturating-sub.result c.requires.turned c.requires.begun c.requires.earlier clocked
+          start_done S es cells locations t e m c.args.s c.saturating_sub.result c.requires.turned c.requires.begun c.requires.earlier clocked
           c.args.grades.now c.column.new.grades c.settle.new.grades c.column.ensures.graded c.column.ensures.framed c.settle.ensures;
       rest =
-          start_rest S es cells locations t e m c.args.s c.saturating-sub.result c.requires.turned c.requires.begun c.requires.earlier clocked
+          start_rest S es cells locations t e m c.args.s c.saturating_sub.result c.requires.turned c.requires.begun c.requires.earlier clocked
           c.args.grades.now c.column.new.grades c.settle.new.grades c.column.ensures.graded c.column.ensures.framed c.settle.ensures;
     }

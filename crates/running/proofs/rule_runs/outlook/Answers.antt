@@ -8,8 +8,8 @@ use Rattle.running.proofs.Connections.{tables_sound}
 use Rattle.running.proofs.RuleRunning.{need_is, rule_seen}
 use Rattle.running.proofs.rule_runs.outlook.Goals as goal
 
-pub outlook-tables-requires : goal.outlook-tables-requires
-outlook-tables-requires g c =
+pub outlook_tables-requires : goal.outlook_tables-requires
+outlook_tables-requires g c =
     let T : Tabulates (normal_form c.args.rule.now) c.cells.result.now c.locations.result.now =
     record {
       few = normals_few c.args.rule.now;
@@ -31,11 +31,11 @@ returns g c =
       locations_are = c.locations.ensures.translated;
     } in
     let old = c.args.table.now.grades.now in
-    let new = c.outlook-tables.new.table.grades.now in
+    let new = c.outlook_tables.new.table.grades.now in
     record {
-      lent = c.outlook-tables.ensures.lent;
+      lent = c.outlook_tables.ensures.lent;
       answer =
-          MatchResult-weaker c.outlook-tables.result c.outlook-tables.ensures.answer
+          MatchResult-weaker c.outlook_tables.result c.outlook_tables.ensures.answer
           (λ pair made. rule_seen R es cells locations T g.S.Scale.ops g.met.S.Scale.laws (g.L.Log.lawful c.args.log.now) old new c.args.event pair made)
           (λ e turned. subst (λ k. Refused (outlook_refusal k (length old) (length es) c.args.event) e old new) (need_is R es cells locations T) turned);
     }

@@ -8,8 +8,8 @@ use Rattle.running.proofs.Connections.{tables_sound}
 use Rattle.running.proofs.RuleRunning.{need_is, rule_ran}
 use Rattle.running.proofs.rule_runs.run.Goals as goal
 
-pub run-tables-requires : goal.run-tables-requires
-run-tables-requires g c =
+pub run_tables-requires : goal.run_tables-requires
+run_tables-requires g c =
     let T : Tabulates (normal_form c.args.rule.now) c.cells.result.now c.locations.result.now =
     record {
       few = normals_few c.args.rule.now;
@@ -31,11 +31,11 @@ returns g c =
       locations_are = c.locations.ensures.translated;
     } in
     let old = c.args.table.now.grades.now in
-    let new = c.run-tables.new.table.grades.now in
+    let new = c.run_tables.new.table.grades.now in
     record {
-      lent = c.run-tables.ensures.lent;
+      lent = c.run_tables.ensures.lent;
       answer =
-          MatchResult-weaker c.run-tables.result c.run-tables.ensures.answer
+          MatchResult-weaker c.run_tables.result c.run_tables.ensures.answer
           (λ n ran. rule_ran R es cells locations T g.S.Scale.ops g.met.S.Scale.laws (g.L.Log.lawful c.args.log.now) old new n ran)
           (λ e turned. subst (λ k. Refused (run_refusal k (length old)) e old new) (need_is R es cells locations T) turned);
     }

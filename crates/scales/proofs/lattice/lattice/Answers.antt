@@ -5,5 +5,5 @@ pub returns : goal.returns
 returns g c =
     record {
       facts = lattice g.S.Scale.ops g.met.S.Scale.laws;
-      upside-down = dual_laws g.S.Scale.ops g.met.S.Scale.laws;
+      upside_down = dual_laws g.S.Scale.ops g.met.S.Scale.laws;
     }

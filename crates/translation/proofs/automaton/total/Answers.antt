@@ -8,8 +8,8 @@ use Rattle.translation.proofs.automaton.total.Goals as goal
 pub loop-node-init : goal.loop-node-init
 loop-node-init c = sym widths_none
 
-pub overflow-add-cells : goal.overflow-add-cells
-overflow-add-cells c =
+pub overflow_add-cells : goal.overflow_add-cells
+overflow_add-cells c =
     let ns = c.args.normals.now in
     let i = c.loop-node.node-index in
     omega (arith, c.loop-node.invariant, widths_few (take i ns), length-take-le i ns c.loop-node.auto.node-index-end, c.width-cells.ensures, width_few (get_or ns i Top), c.requires, c.loop-node-test.true)

@@ -35,8 +35,8 @@ loop-node-preserved c =
     c.add.ensures ∙ ap (λ B. write B (get_or c.args.normals.now c.loop-node.node-index Top)) c.loop-node.invariant ∙
     sym (on_more _ _ _ Top c.loop-node-test.true)
 
-pub overflow-sub-cells : goal.overflow-sub-cells
-overflow-sub-cells c = omega (arith, c.total-cells.ensures, widths_few c.args.normals.now, c.requires.1.0)
+pub overflow_sub-cells : goal.overflow_sub-cells
+overflow_sub-cells c = omega (arith, c.total-cells.ensures, widths_few c.args.normals.now, c.requires.1.0)
 
 pub returns : goal.returns
 returns c f e =

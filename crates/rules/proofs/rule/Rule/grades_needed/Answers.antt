@@ -6,8 +6,8 @@ saturates a b m = omega arith
 
 pub returns : goal.returns
 returns c =
-    let l = c.location-count.ensures.is in
-    let k = c.cell-count-columns.ensures.is in
+    let l = c.location_count.ensures.is in
+    let k = c.cell_count-columns.ensures.is in
     let m : ℕ = 18446744073709551615 in
-    c.saturating-add.ensures ∙ ap (λ x. min (x + 2 * c.cell-count-columns.result) m) c.saturating-mul.ensures ∙
-    saturates (c.location-count.result * c.args.events) (2 * c.cell-count-columns.result) m ∙ (λ t. min (l t * c.args.events + 2 * k t) m)
+    c.saturating_add.ensures ∙ ap (λ x. min (x + 2 * c.cell_count-columns.result) m) c.saturating_mul.ensures ∙
+    saturates (c.location_count.result * c.args.events) (2 * c.cell_count-columns.result) m ∙ (λ t. min (l t * c.args.events + 2 * k t) m)

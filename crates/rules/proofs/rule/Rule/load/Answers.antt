@@ -15,53 +15,53 @@ use Rattle.rules.proofs.Facts.{normal_stands}
 use Rattle.rules.proofs.Loads.{read_holds, judged_answer, source_is, source_counted, source_ordered, earlier, normal_table, normal_answer, no_limit, loaded_answer, normal_earlier, normal_some}
 use Rattle.rules.proofs.rule.Rule.load.Goals as goal
 
-pub returns-in-err-source : goal.returns-in-err-source
-returns-in-err-source c =
-    let p = err_from_is_err_and c.from-residual.result c.from-residual.ensures.1 in
-    rw (p.1, p.2) (unread c.in-err-source.ensures)
+pub returns-in_err-source : goal.returns-in_err-source
+returns-in_err-source c =
+    let p = err_from_is_err_and c.from_residual.result c.from_residual.ensures.1 in
+    rw (p.1, p.2) (unread c.in_err-source.ensures)
 
-pub returns-in-err-judge : goal.returns-in-err-judge
-returns-in-err-judge c =
-    let p = err_from_is_err_and c.from-residual-in-err-judge.result c.from-residual-in-err-judge.ensures.1 in
-    rw (p.1, p.2) (judged_answer c.in-ok-source.ensures _ c.in-err-judge.ensures)
+pub returns-in_err-judge : goal.returns-in_err-judge
+returns-in_err-judge c =
+    let p = err_from_is_err_and c.from_residual-in_err-judge.result c.from_residual-in_err-judge.ensures.1 in
+    rw (p.1, p.2) (judged_answer c.in_ok-source.ensures _ c.in_err-judge.ensures)
 
-pub overflow-sub-source : goal.overflow-sub-source
-overflow-sub-source c = let a = c.in-ok-source.ensures in omega (arith, a.count, forms_positive a.f)
+pub overflow_sub-source : goal.overflow_sub-source
+overflow_sub-source c = let a = c.in_ok-source.ensures in omega (arith, a.count, forms_positive a.f)
 
 pub normalize-requires : goal.normalize-requires
 normalize-requires c =
-    let a = c.in-ok-source.ensures in
-    let w = earlier a (c.in-ok-judge.ensures a.f (read_holds a)) _ c.as-slice.ensures in
+    let a = c.in_ok-source.ensures in
+    let w = earlier a (c.in_ok-judge.ensures a.f (read_holds a)) _ c.as_slice.ensures in
     (w.0, w.1)
 
-pub returns-in-err-normalize : goal.returns-in-err-normalize
-returns-in-err-normalize c =
-    let a = c.in-ok-source.ensures in
-    let ok = c.in-ok-judge.ensures a.f (read_holds a) in
-    let p = err_from_is_err_and c.from-residual-in-err-normalize.result c.from-residual-in-err-normalize.ensures.1 in
-    rw (p.1, p.2) (normal_answer a ok _ _ _ c.as-slice.ensures c.new-normals.ensures c.in-err-normalize.ensures)
+pub returns-in_err-normalize : goal.returns-in_err-normalize
+returns-in_err-normalize c =
+    let a = c.in_ok-source.ensures in
+    let ok = c.in_ok-judge.ensures a.f (read_holds a) in
+    let p = err_from_is_err_and c.from_residual-in_err-normalize.result c.from_residual-in_err-normalize.ensures.1 in
+    rw (p.1, p.2) (normal_answer a ok _ _ _ c.as_slice.ensures c.new-normals.ensures c.in_err-normalize.ensures)
 
 pub translate-requires : goal.translate-requires
 translate-requires c =
-    let a = c.in-ok-source.ensures in
-    let ok = c.in-ok-judge.ensures a.f (read_holds a) in
+    let a = c.in_ok-source.ensures in
+    let ok = c.in_ok-judge.ensures a.f (read_holds a) in
     let B = c.normalize.new.normals in
     let few : B.len ≤ 64 = B.few in
-    let e = c.as-slice-2.ensures ∙ normal_table a ok _ _ _ _ c.as-slice.ensures c.new-normals.ensures c.in-ok-normalize.ensures in
-    let all : length c.as-slice-2.result.now ≤ 64 = omega (arith, ap length c.as-slice-2.ensures, length-take B.len B.items) in
+    let e = c.as_slice-2.ensures ∙ normal_table a ok _ _ _ _ c.as_slice.ensures c.new-normals.ensures c.in_ok-normalize.ensures in
+    let all : length c.as_slice-2.result.now ≤ 64 = omega (arith, ap length c.as_slice-2.ensures, length-take B.len B.items) in
     (normal_earlier a ok _ e all, (normal_some a ok _ e all, all))
 
-pub invariant-of-result : goal.invariant-of-result
-invariant-of-result c =
-    let a = c.in-ok-source.ensures in
-    let ok = c.in-ok-judge.ensures a.f (read_holds a) in
+pub invariant_of-result : goal.invariant_of-result
+invariant_of-result c =
+    let a = c.in_ok-source.ensures in
+    let ok = c.in_ok-judge.ensures a.f (read_holds a) in
     let B = c.normalize.new.normals in
     let M = listed B.items B.len in
     let few : B.len ≤ 64 = B.few in
-    let e = normal_table a ok _ _ M _ c.as-slice.ensures c.new-normals.ensures c.in-ok-normalize.ensures in
+    let e = normal_table a ok _ _ M _ c.as_slice.ensures c.new-normals.ensures c.in_ok-normalize.ensures in
     let all : length M ≤ 64 = omega (arith, length-take B.len B.items) in
     let s = source_is a ok in
-    let w = c.translate.ensures (normal true a.f) (c.as-slice-2.ensures ∙ e) in (
+    let w = c.translate.ensures (normal true a.f) (c.as_slice-2.ensures ∙ e) in (
       source_counted a ok,
       (
         ap refusal_of s ∙ no_limit a ok M e all,
@@ -74,15 +74,15 @@ invariant-of-result c =
 
 pub returns : goal.returns
 returns c =
-    let a = c.in-ok-source.ensures in
-    let ok = c.in-ok-judge.ensures a.f (read_holds a) in
+    let a = c.in_ok-source.ensures in
+    let ok = c.in_ok-judge.ensures a.f (read_holds a) in
     let B = c.normalize.new.normals in
     let M = listed B.items B.len in
     let few : B.len ≤ 64 = B.few in
-    let e = normal_table a ok _ _ M _ c.as-slice.ensures c.new-normals.ensures c.in-ok-normalize.ensures in
+    let e = normal_table a ok _ _ M _ c.as_slice.ensures c.new-normals.ensures c.in_ok-normalize.ensures in
     let all : length M ≤ 64 = omega (arith, length-take B.len B.items) in
     let N = normal true a.f in
-    let w = c.translate.ensures N (c.as-slice-2.ensures ∙ e) in
+    let w = c.translate.ensures N (c.as_slice-2.ensures ∙ e) in
     record {
       f = a.f;
       reads = a.reads;

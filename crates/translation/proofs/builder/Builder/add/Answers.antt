@@ -13,7 +13,7 @@ returns-in-Next c =
     let base = c.len-base.ensures ∙ sym (cells_counted (listed S.cells.items S.cells.len)) in
     let own = c.len-own.ensures ∙ sym (entries_counted (listed S.locations.items S.locations.len)) in
     let root = c.root.ensures in
-    c.timed.ensures ∙ ap (λ xs. timed_added (built_of S) xs 2 false) (c.next-cells-cells.ensures ∙ (λ t. five cell_and (cell_in (interval_of I)) (own t) (base t) (root t))) ∙
+    c.timed.ensures ∙ ap (λ xs. timed_added (built_of S) xs 2 false) (c.next_cells-cells.ensures ∙ (λ t. five cell_and (cell_in (interval_of I)) (own t) (base t) (root t))) ∙
     sym (ap (write (built_of S)) c.in-Next.is)
 
 pub returns-in-DualNext : goal.returns-in-DualNext
@@ -23,7 +23,7 @@ returns-in-DualNext c =
     let base = c.len-base.ensures ∙ sym (cells_counted (listed S.cells.items S.cells.len)) in
     let own = c.len-own.ensures ∙ sym (entries_counted (listed S.locations.items S.locations.len)) in
     let root = c.root-in-DualNext.ensures in
-    c.timed-in-DualNext.ensures ∙ ap (λ xs. timed_added (built_of S) xs 2 true) (c.dual-next-cells-cells.ensures ∙ (λ t. five cell_or (cell_out (interval_of I)) (own t) (base t) (root t))) ∙
+    c.timed-in-DualNext.ensures ∙ ap (λ xs. timed_added (built_of S) xs 2 true) (c.dual_next_cells-cells.ensures ∙ (λ t. five cell_or (cell_out (interval_of I)) (own t) (base t) (root t))) ∙
     sym (ap (write (built_of S)) c.in-DualNext.is)
 
 pub returns-in-Until : goal.returns-in-Until
@@ -34,7 +34,7 @@ returns-in-Until c =
     let own = c.len-own.ensures ∙ sym (entries_counted (listed S.locations.items S.locations.len)) in
     let left = c.root-in-Until.ensures in
     let right = c.root-in-Until-2.ensures in
-    c.timed-in-Until.ensures ∙ ap (λ xs. timed_added (built_of S) xs 8 false) (c.until-cells-cells.ensures ∙ (λ t. nine cell_and cell_or (cell_in (interval_of I)) (cell_at_most (upper_of I.upper)) (own t) (base t) (left t) (right t))) ∙
+    c.timed-in-Until.ensures ∙ ap (λ xs. timed_added (built_of S) xs 8 false) (c.until_cells-cells.ensures ∙ (λ t. nine cell_and cell_or (cell_in (interval_of I)) (cell_at_most (upper_of I.upper)) (own t) (base t) (left t) (right t))) ∙
     sym (ap (write (built_of S)) c.in-Until.is)
 
 pub returns-in-Release : goal.returns-in-Release
@@ -45,5 +45,5 @@ returns-in-Release c =
     let own = c.len-own.ensures ∙ sym (entries_counted (listed S.locations.items S.locations.len)) in
     let left = c.root-in-Release.ensures in
     let right = c.root-in-Release-2.ensures in
-    c.timed-in-Release.ensures ∙ ap (λ xs. timed_added (built_of S) xs 8 true) (c.release-cells-cells.ensures ∙ (λ t. nine cell_or cell_and (cell_out (interval_of I)) (cell_above (upper_of I.upper)) (own t) (base t) (left t) (right t))) ∙
+    c.timed-in-Release.ensures ∙ ap (λ xs. timed_added (built_of S) xs 8 true) (c.release_cells-cells.ensures ∙ (λ t. nine cell_or cell_and (cell_out (interval_of I)) (cell_above (upper_of I.upper)) (own t) (base t) (left t) (right t))) ∙
     sym (ap (write (built_of S)) c.in-Release.is)

@@ -21,5 +21,5 @@ returns c =
     built_same _ _
     (ap cells_of c.extend.ensures ∙ map-append cell_of X M)
     (ap entries_of (pushed c.push.result L _ _ _ 65 c.push.ensures (omega (arith, c.requires.1.0, entries_counted L))) ∙ map_push entry_of L _ ∙
-    ap (λ z. entries_of L ++ (record { root = z + c.args.root; final = c.args.is-final } ∷ [])) base)
+    ap (λ z. entries_of L ++ (record { root = z + c.args.root; final = c.args.is_final } ∷ [])) base)
     (pushed c.push-2.result R _ _ _ 64 c.push-2.ensures c.requires.1.1.0 ∙ (λ t. R ++ ((base t + (sym (cells_counted M) t - 1)) ∷ [])))
