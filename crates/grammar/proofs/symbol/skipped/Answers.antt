@@ -8,5 +8,5 @@ loop-rest-preserved c = skip_space _ (omega (arith, ltb-true, ltb-false)) (omega
 pub returns-in_default : goal.returns-in_default
 returns-in_default c = sym (skip_none _ (omega (arith, ltb-true, ltb-false))) ∙ c.loop-rest.invariant
 
-pub returns-in_default·2 : goal.returns-in_default·2
-returns-in_default·2 c = sym (skip_other _ (omega (arith, ltb-true, ltb-false)) (omega arith)) ∙ c.loop-rest.invariant
+pub returns-in_default-2 : goal.returns-in_default-2
+returns-in_default-2 c = sym (skip_other _ (omega (arith, ltb-true, ltb-false)) (omega arith)) ∙ c.loop-rest.invariant

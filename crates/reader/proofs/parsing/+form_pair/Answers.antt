@@ -9,46 +9,46 @@ use Rattle.reader.proofs.parsing.+form_pair.Goals as goal
 pub form-returns-in_err-sign : goal.form-returns-in_err-sign
 form-returns-in_err-sign t c = rw c.from_residual.ensures (λ f u h. form_some h c.in_err-sign.ensures)
 
-pub form_pair-requires : goal.form_pair-requires
-form_pair-requires t c = omega (arith, symbol_shorter c.in_ok-sign.ensures)
+pub form-pair-requires : goal.form-pair-requires
+form-pair-requires t c = omega (arith, symbol_shorter c.in_ok-sign.ensures)
 
 pub form-form-requires : goal.form-form-requires
 form-form-requires t c = omega (arith, symbol_shorter c.in_ok-sign.ensures)
 
-pub form-returns-in_err-rest : goal.form-returns-in_err-rest
-form-returns-in_err-rest t c =
-    rw c.from_residual-in_err-rest.ensures
-    (λ f u h. let w = from_opposite h (sign_as c.in-33.is c.in_ok-sign.ensures) in c.in_err-rest.ensures w.inner u w.reads)
+pub form-returns-in_err-rest-in-33 : goal.form-returns-in_err-rest-in-33
+form-returns-in_err-rest-in-33 t c =
+    rw c.from_residual-in_err-rest-in-33.ensures
+    (λ f u h. let w = from_opposite h (sign_as c.in-33.is c.in_ok-sign.ensures) in c.in_err-rest-in-33.ensures w.inner u w.reads)
 
 pub form-overflow_sub-source : goal.form-overflow_sub-source
-form-overflow_sub-source t c = let a = c.in_ok-rest.ensures in omega (arith, a.grown.count, forms_positive a.f)
+form-overflow_sub-source t c = let a = c.in_ok-rest-in-33.ensures in omega (arith, a.grown.count, forms_positive a.f)
 
 pub form-add-requires : goal.form-add-requires
-form-add-requires t c = omega (arith, symbol_shorter c.in_ok-sign.ensures, c.in_ok-rest.ensures)
+form-add-requires t c = omega (arith, symbol_shorter c.in_ok-sign.ensures, c.in_ok-rest-in-33.ensures)
 
-pub form-returns-in_err-bounds : goal.form-returns-in_err-bounds
-form-returns-in_err-bounds t c =
-    rw c.from_residual-in_err-bounds.ensures
-    (λ f u h. no_timed_bounds c.in-Some.how (sign_as (sym c.in-Some.ensures) c.in_ok-sign.ensures) c.in_err-bounds.ensures h)
+pub form-returns-in_err-bounds-in-Some : goal.form-returns-in_err-bounds-in-Some
+form-returns-in_err-bounds-in-Some t c =
+    rw c.from_residual-in_err-bounds-in-Some.ensures
+    (λ f u h. no_timed_bounds c.in-Some.how (sign_as (sym c.in-Some.ensures) c.in_ok-sign.ensures) c.in_err-bounds-in-Some.ensures h)
 
 pub form-form-requires-in-Some : goal.form-form-requires-in-Some
-form-form-requires-in-Some t c = omega (arith, symbol_shorter c.in_ok-sign.ensures, bounds_shorter c.in_ok-bounds.ensures.reads)
+form-form-requires-in-Some t c = omega (arith, symbol_shorter c.in_ok-sign.ensures, bounds_shorter c.in_ok-bounds-in-Some.ensures.reads)
 
-pub form-returns-in_err-rest-2 : goal.form-returns-in_err-rest-2
-form-returns-in_err-rest-2 t c =
-    rw c.from_residual-in_err-rest-2.ensures
-    (λ f u h. no_timed_form c.in-Some.how (sign_as (sym c.in-Some.ensures) c.in_ok-sign.ensures) c.in_ok-bounds.ensures.reads c.in_err-rest-2.ensures h)
+pub form-returns-in_err-rest-in-Some : goal.form-returns-in_err-rest-in-Some
+form-returns-in_err-rest-in-Some t c =
+    rw c.from_residual-in_err-rest-in-Some.ensures
+    (λ f u h. no_timed_form c.in-Some.how (sign_as (sym c.in-Some.ensures) c.in_ok-sign.ensures) c.in_ok-bounds-in-Some.ensures.reads c.in_err-rest-in-Some.ensures h)
 
 pub form-overflow_sub-source-in-Some : goal.form-overflow_sub-source-in-Some
-form-overflow_sub-source-in-Some t c = let a = c.in_ok-rest-2.ensures in omega (arith, a.grown.count, forms_positive a.f)
+form-overflow_sub-source-in-Some t c = let a = c.in_ok-rest-in-Some.ensures in omega (arith, a.grown.count, forms_positive a.f)
 
 pub form-add-requires-in-Some : goal.form-add-requires-in-Some
-form-add-requires-in-Some t c = omega (arith, symbol_shorter c.in_ok-sign.ensures, bounds_shorter c.in_ok-bounds.ensures.reads, c.in_ok-rest-2.ensures)
+form-add-requires-in-Some t c = omega (arith, symbol_shorter c.in_ok-sign.ensures, bounds_shorter c.in_ok-bounds-in-Some.ensures.reads, c.in_ok-rest-in-Some.ensures)
 
-pub form-returns-in_err-plain : goal.form-returns-in_err-plain
-form-returns-in_err-plain t c =
-    rw c.from_residual-in_err-plain.ensures
-    (λ f u h. no_other c.in_ok-sign.ensures c.in_err-plain.ensures (omega arith) (omega arith) c.in-None.ensures h)
+pub form-returns-in_err-plain-in-None : goal.form-returns-in_err-plain-in-None
+form-returns-in_err-plain-in-None t c =
+    rw c.from_residual-in_err-plain-in-None.ensures
+    (λ f u h. no_other c.in_ok-sign.ensures c.in_err-plain-in-None.ensures (omega arith) (omega arith) c.in-None.ensures h)
 
 pub form-add-requires-in-None : goal.form-add-requires-in-None
 form-add-requires-in-None t c = omega (arith, symbol_shorter c.in_ok-sign.ensures)
@@ -58,16 +58,16 @@ form-returns-in-40 t c =
     let x = sign_as c.in-40.is c.in_ok-sign.ensures in
     some_weaker c.pair.result (λ p f u h. p f u (from_pair h x)) (λ r a. pair_form x a) c.pair.ensures
 
-pub form-returns-in_ok-rest : goal.form-returns-in_ok-rest
-form-returns-in_ok-rest t c = opposite_step (sign_as c.in-33.is c.in_ok-sign.ensures) c.in_ok-rest.ensures c.add.ensures
+pub form-returns-in_ok-rest-in-33 : goal.form-returns-in_ok-rest-in-33
+form-returns-in_ok-rest-in-33 t c = opposite_step (sign_as c.in-33.is c.in_ok-sign.ensures) c.in_ok-rest-in-33.ensures c.add.ensures
 
-pub form-returns-in_ok-rest-2 : goal.form-returns-in_ok-rest-2
-form-returns-in_ok-rest-2 t c =
-    timed_step c.in-Some.how c.in_ok-sign.ensures c.in-Some.ensures c.in_ok-bounds.ensures c.in_ok-rest-2.ensures c.timed.ensures
+pub form-returns-in_ok-rest-in-Some : goal.form-returns-in_ok-rest-in-Some
+form-returns-in_ok-rest-in-Some t c =
+    timed_step c.in-Some.how c.in_ok-sign.ensures c.in-Some.ensures c.in_ok-bounds-in-Some.ensures c.in_ok-rest-in-Some.ensures c.timed.ensures
     c.add-in-Some.ensures
 
-pub form-returns-in_ok-plain : goal.form-returns-in_ok-plain
-form-returns-in_ok-plain t c = plain_step c.in_ok-sign.ensures c.in_ok-plain.ensures c.add-in-None.ensures
+pub form-returns-in_ok-plain-in-None : goal.form-returns-in_ok-plain-in-None
+form-returns-in_ok-plain-in-None t c = plain_step c.in_ok-sign.ensures c.in_ok-plain-in-None.ensures c.add-in-None.ensures
 
 pub pair-overflow_sub-left : goal.pair-overflow_sub-left
 pair-overflow_sub-left t c = let a = c.in_ok-rest.ensures in omega (arith, a.grown.count, forms_positive a.f)

@@ -17,5 +17,5 @@ returns-in-a-to-p c = record { f = fact _; reads = is_fact (omega arith) (omega 
 pub returns-in_default : goal.returns-in_default
 returns-in_default c = λ f h. no_plain (omega arith) (omega arith) (omega arith) h
 
-pub returns-in_default·2 : goal.returns-in_default·2
-returns-in_default·2 c = λ f h. no_plain (omega arith) (omega arith) (omega arith) h
+pub returns-in_default-2 : goal.returns-in_default-2
+returns-in_default-2 c = λ f h. no_plain (omega arith) (omega arith) (omega arith) h
