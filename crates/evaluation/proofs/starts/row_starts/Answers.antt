@@ -3,7 +3,7 @@ use Rattle.tables.specs.Intervals.{upper_of}
 use Rattle.evaluation.proofs.Places.{place_below}
 use Rattle.evaluation.proofs.RowSteps.{clocked, clock_rises, Fitting, fitting_new, reached_none, reached_more, reached_all, reached_passed}
 use Rattle.evaluation.proofs.starts.row_starts.Goals as goal
-use Rattle.evaluation.proofs.starts.row_starts.Goals.{then-not-at-most-2, else-not-at-most-2}
+use Rattle.evaluation.proofs.starts.row_starts.Goals.{then-not-at_most-2, else-not-at_most-2}
 
 pub loop-s-init : goal.loop-s-init
 loop-s-init g c = (c.requires.turned.begun, omega arith, reached_none g.S.Scale.ops g.met.S.Scale.laws _ _ c.args.turn _ c.requires.turned c.args.times.now c.args.location c.requires.there c.args.grades.now, c.segment_at-segment.ensures.segmented, omega (arith, c.segment_at-segment.ensures.since))

@@ -5,7 +5,7 @@ use Rattle.limits.specs.Parts.{passes, every_node}
 use Rattle.limits.specs.Limits.{proper}
 use Rattle.limits.proofs.Tested.{every_none, every_more, every_fails}
 use Rattle.limits.proofs.intervals.all_proper.Goals as goal
-use Rattle.limits.proofs.intervals.all_proper.Goals.{in-Some+else-not-is-proper, in-default}
+use Rattle.limits.proofs.intervals.all_proper.Goals.{in-Some+else-not-is_proper, in_default}
 
 pub loop-node-init : goal.loop-node-init
 loop-node-init c = every_none proper
@@ -16,8 +16,8 @@ returns-then-not-is_proper c =
 
 pub loop-node-preserved : goal.loop-node-preserved
 loop-node-preserved c = every_more proper _ _ Top c.loop-node-test.true c.loop-node.invariant (elim c.match-interval_in.branch [
-  | in-Some+else-not-is-proper w ↦ ap (passes proper) (sym w.in-Some.ensures) ∙ sym w.is_proper.ensures ∙ w.if-not-is_proper.false
-  | in-default w ↦ ap (passes proper) (sym c.node_interval.ensures ∙ w.in_default.is)
+  | in-Some+else-not-is_proper w ↦ ap (passes proper) (sym w.in-Some.ensures) ∙ sym w.is_proper.ensures ∙ w.if-not-is_proper.false
+  | in_default w ↦ ap (passes proper) (sym c.interval_in.ensures ∙ w.in_default.is)
 ])
 
 pub returns : goal.returns

@@ -5,7 +5,7 @@ use Rattle.limits.specs.Parts.{passes, every_node}
 use Rattle.limits.specs.Limits.{small}
 use Rattle.limits.proofs.Tested.{every_none, every_more, every_fails}
 use Rattle.limits.proofs.intervals.all_small.Goals as goal
-use Rattle.limits.proofs.intervals.all_small.Goals.{in-Some+else-not-is-small, in-default}
+use Rattle.limits.proofs.intervals.all_small.Goals.{in-Some+else-not-is_small, in_default}
 
 pub loop-node-init : goal.loop-node-init
 loop-node-init c = every_none small
@@ -16,8 +16,8 @@ returns-then-not-is_small c =
 
 pub loop-node-preserved : goal.loop-node-preserved
 loop-node-preserved c = every_more small _ _ Top c.loop-node-test.true c.loop-node.invariant (elim c.match-interval_in.branch [
-  | in-Some+else-not-is-small w ↦ ap (passes small) (sym w.in-Some.ensures) ∙ sym w.is_small.ensures ∙ w.if-not-is_small.false
-  | in-default w ↦ ap (passes small) (sym c.node_interval.ensures ∙ w.in_default.is)
+  | in-Some+else-not-is_small w ↦ ap (passes small) (sym w.in-Some.ensures) ∙ sym w.is_small.ensures ∙ w.if-not-is_small.false
+  | in_default w ↦ ap (passes small) (sym c.interval_in.ensures ∙ w.in_default.is)
 ])
 
 pub returns : goal.returns
