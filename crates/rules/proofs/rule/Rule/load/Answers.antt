@@ -61,16 +61,14 @@ invariant_of-result c =
     let e = normal_table a ok _ _ M _ c.as_slice.ensures c.new-normals.ensures c.in_ok-normalize.ensures in
     let all : length M ≤ 64 = omega (arith, length-take B.len B.items) in
     let s = source_is a ok in
-    let w = c.translate.ensures (normal true a.f) (c.as_slice-2.ensures ∙ e) in (
-      source_counted a ok,
-      (
-        ap refusal_of s ∙ no_limit a ok M e all,
-        (
-          ap node_codes (e ∙ ap (λ f. normal_written 0 (normal true f)) (sym s)),
-          (ap cell_codes (w.cells ∙ ap (λ f. table (normal true f)) (sym s)), (ap entry_codes (w.locations ∙ ap (λ f. entries (normal true f)) (sym s)), tt)),
-        ),
-      ),
-    )
+    let w = c.translate.ensures (normal true a.f) (c.as_slice-2.ensures ∙ e) in
+    record {
+      counted = source_counted a ok;
+      lawful = ap refusal_of s ∙ no_limit a ok M e all;
+      normalized = ap node_codes (e ∙ ap (λ f. normal_written 0 (normal true f)) (sym s));
+      celled = ap cell_codes (w.cells ∙ ap (λ f. table (normal true f)) (sym s));
+      located = ap entry_codes (w.locations ∙ ap (λ f. entries (normal true f)) (sym s));
+    }
 
 pub returns : goal.returns
 returns c =
