@@ -16,7 +16,7 @@ returns g c =
     let fits : needed es cells locations ≤ length old = omega arith in
     let same : length new ≡ length old = omega (arith, c.fill.auto.grades, c.foresee-ceiling.auto.grades, c.foresee-floor.auto.grades) in
     record {
-      lent = refl {a = c.args.table.now.grades.name};
+      lent = refl {a = c.args.table.now.grades.ghost_name};
       answer =
           record {
             accepted = outlook_accepted (needed es cells locations) (length old) (length es) c.args.event fits (omega arith) (omega arith);

@@ -12,7 +12,7 @@ returns g c =
     let old = c.args.table.now.grades.now in
     let fits : needed es cells locations ≤ length old = omega (arith, ap (λ n. length locations * n) c.count-count.ensures) in
     record {
-      lent = refl {a = c.args.table.now.grades.name};
+      lent = refl {a = c.args.table.now.grades.ghost_name};
       answer =
           record {
             accepted = run_accepted (needed es cells locations) (length old) fits;
