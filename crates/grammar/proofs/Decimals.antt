@@ -1,8 +1,8 @@
 -- The digits of a number, one by one.
-use Rattle.std.proofs.Common.{◌≡◌, ℕ, ◌+◌, ◌-◌, ◌*◌, ◌<◌, ◌≤◌, min, List, [], ◌∷◌, ◌++◌, length, get_or, take, drop, sym, refl, ap, ◌∙◌, subst, append_assoc, arith}
+use Rattle.std.proofs.Common.{◌≡◌, ℕ, ◌+◌, ◌-◌, ◌*◌, ◌≤◌, min, List, [], ◌∷◌, ◌++◌, length, get_or, take, drop, sym, ap, ◌∙◌, append_assoc, arith}
 use Rattle.std.proofs.lemmas.List.Sums.{fold_push}
-use Rattle.grammar.specs.Grammar.{skip, Symbol, Digit, Digits, NoDigit, Numeral, decimal, Number}
-use Rattle.grammar.specs.Runs.{cap, Passed, Run}
+use Rattle.grammar.specs.Grammar.{Digit, Digits, decimal}
+use Rattle.grammar.specs.Runs.{cap, Passed}
 use Rattle.grammar.proofs.Fronts.{uncons}
 
 digits_more : (ds : List ℕ) (c : ℕ) → Digits ds → Digit c → Digits (ds ++ c ∷ [])

@@ -1,9 +1,9 @@
 -- What is left is shorter.
-use Rattle.std.proofs.Common.{◌≡◌, ℕ, ◌+◌, ◌-◌, ◌<◌, ◌≤◌, Bool, true, false, cond, eqb, List, [], ◌∷◌, ◌++◌, length, sym, refl, ap, ◌∙◌, subst, arith, length-append}
+use Rattle.std.proofs.Common.{ℕ, ◌<◌, ◌≤◌, true, false, cond, eqb, List, [], ◌∷◌, length, ap, ◌∙◌, arith, length-append}
 use Rattle.grammar.specs.declared.operator.Joining.{Joining}
 use Rattle.grammar.specs.declared.operator.Joining.TheVariants.{Both, Either, Implies, Until, Release}
-use Rattle.semantics.specs.Forms.{Upper, Interval, Form}
-use Rattle.grammar.specs.Grammar.{skip, Symbol, Number, UpperAt, no_end, an_end, Inside, BoundsAt, absent, given, JoiningBounds, JoiningAt}
+use Rattle.semantics.specs.Forms.{Upper, Interval}
+use Rattle.grammar.specs.Grammar.{skip, Symbol, Number, UpperAt, no_end, an_end, BoundsAt, absent, given, JoiningBounds, JoiningAt}
 
 pub skip_length : (t : List ℕ) → length (skip t) ≤ length t
 unfolding skip

@@ -1,13 +1,13 @@
 -- A text has at most one reading.
-use Rattle.std.proofs.Common.{◌≡◌, ℕ, ◌+◌, ◌-◌, ◌*◌, ◌<◌, ◌≤◌, cond, eqb, ◌⊎◌, List, [], ◌∷◌, ◌++◌, sym, refl, ap, ◌∙◌, subst, inl, inr, arith}
+use Rattle.std.proofs.Common.{◌≡◌, ℕ, ◌≤◌, cond, eqb, ◌⊎◌, List, [], ◌∷◌, ◌++◌, sym, refl, ap, ◌∙◌, subst, inl, inr, arith}
 use Rattle.grammar.specs.declared.operator.Timing.{Timing}
 use Rattle.grammar.specs.declared.operator.Timing.TheVariants.{Next, DualNext, Eventually, Always}
 use Rattle.grammar.specs.declared.operator.Joining.{Joining}
 use Rattle.grammar.specs.declared.operator.Joining.TheVariants.{Both, Either, Implies, Until, Release}
-use Rattle.semantics.specs.Forms.{Upper, none, upto, Interval, Form}
-use Rattle.semantics.specs.Forms.{top, bottom, fact, opposite}
-use Rattle.grammar.specs.Grammar.{skip, Symbol, Digit, Digits, NoDigit, Numeral, decimal, Number, UpperAt, no_end, an_end, whole, Inside, BoundsAt, absent, given}
-use Rattle.grammar.specs.Grammar.{Plain, is_one, is_zero, is_fact, timing_sign, timed, joining_sign, joined, JoiningBounds, JoiningAt, FormAt, plain_at, opposite_at, timed_at, pair_at, PairAt, Reads, Unambiguous}
+use Rattle.semantics.specs.Forms.{Upper, upto, Interval, Form}
+use Rattle.semantics.specs.Forms.{fact, opposite}
+use Rattle.grammar.specs.Grammar.{skip, Symbol, Digit, Digits, NoDigit, Numeral, decimal, Number, UpperAt, no_end, an_end, Inside, BoundsAt, absent, given}
+use Rattle.grammar.specs.Grammar.{Plain, is_one, is_zero, is_fact, timing_sign, timed, joining_sign, joined, JoiningBounds, JoiningAt, FormAt, plain_at, opposite_at, timed_at, pair_at, PairAt, Unambiguous}
 
 -- two symbols at one place
 pub same_sign : {a b : ℕ} {t u v : List ℕ} → Symbol a t u → Symbol b t v → a ≡ b

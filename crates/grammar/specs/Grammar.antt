@@ -1,5 +1,5 @@
 -- How a rule is written. Bytes are numbers; 32 is the space.
-use Rattle.std.specs.Prelude.{◌≡◌, ℕ, ◌+◌, ◌-◌, ◌*◌, ◌<◌, ◌≤◌, cond, ◌⊎◌, List, [], ◌∷◌, ◌++◌, fold, ◌==◌}
+use Rattle.std.specs.Prelude.{◌≡◌, ℕ, ◌+◌, ◌-◌, ◌*◌, ◌<◌, ◌≤◌, cond, List, [], ◌∷◌, ◌++◌, fold, ◌==◌}
 use Rattle.grammar.specs.declared.operator.Timing.{Timing}
 use Rattle.grammar.specs.declared.operator.Timing.TheVariants.{Next, DualNext, Eventually, Always}
 use Rattle.grammar.specs.declared.operator.Joining.{Joining}

@@ -1,10 +1,9 @@
 -- A test of each interval of a table, entry by entry.
-use Rattle.std.proofs.Common.{◌≡◌, ℕ, zero, suc, ◌+◌, ◌<◌, Bool, true, false, ◌&&◌, List, [], ◌∷◌, ◌++◌, length, get_or, take, sym, refl, ap, ◌∙◌, ap₂, arith}
+use Rattle.std.proofs.Common.{◌≡◌, ℕ, zero, suc, ◌+◌, ◌<◌, Bool, true, false, ◌&&◌, List, [], ◌∷◌, ◌++◌, length, get_or, take, sym, refl, ap, ◌∙◌, arith}
 use Rattle.std.proofs.lemmas.List.{take_more}
 use Rattle.std.proofs.lemmas.Bool.{and_right, and_from}
 use Rattle.semantics.specs.Forms as meaning
 use Rattle.tables.specs.declared.node.Node.{Node}
-use Rattle.tables.specs.declared.node.Node.TheVariants.{Top}
 use Rattle.limits.specs.Parts.{node_interval, passes, every_node}
 
 module _ (p : meaning.Interval → Bool) where

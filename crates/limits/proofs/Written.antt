@@ -1,5 +1,5 @@
 -- The table that a form is written into: what it stands for, and the tests of its intervals.
-use Rattle.std.proofs.Common.{◌≡◌, ℕ, suc, ◌+◌, ◌-◌, ◌<◌, ◌≤◌, max, Bool, true, false, ◌&&◌, leb, ◌⊎◌, List, [], ◌∷◌, ◌++◌, length, get_or, sym, refl, ap, ◌∙◌, ap₂, inl, inr, append_assoc, zero-add, arith, length-append}
+use Rattle.std.proofs.Common.{◌≡◌, ℕ, ◌+◌, ◌-◌, max, Bool, true, false, ◌&&◌, leb, List, [], ◌∷◌, ◌++◌, length, sym, refl, ap, ◌∙◌, ap₂, inl, inr, append_assoc, zero-add, arith, length-append}
 use Rattle.std.proofs.lemmas.Bool.{and_parts, cases_lt, le-leb, lt-leb, leb-true}
 use Rattle.semantics.specs.Forms.{Upper, none, upto, Interval, Form, top, bottom, fact, opposite, both, either, implies, next, dual_next, eventually, always, until, release, forms}
 use Rattle.semantics.proofs.Indexed.{All, all_append, all_at}

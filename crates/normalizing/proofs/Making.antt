@@ -1,5 +1,5 @@
 -- The entries of a normal form, from those of its parts.
-use Rattle.std.proofs.Common.{◌≡◌, ℕ, ◌+◌, ◌-◌, ◌<◌, ◌≤◌, Bool, true, false, not, List, [], ◌∷◌, ◌++◌, length, get_or, Some, None, Option, sym, refl, ap, ◌∙◌, subst, ap₂, append_assoc, arith, length-append}
+use Rattle.std.proofs.Common.{◌≡◌, ℕ, ◌+◌, ◌-◌, ◌<◌, ◌≤◌, Bool, true, false, not, List, [], ◌∷◌, ◌++◌, length, get_or, Some, None, Option, sym, refl, ap, ◌∙◌, subst, append_assoc, arith, length-append}
 use Rattle.refusals.specs.declared.refusal.Refusal.{Refusal}
 use Rattle.semantics.specs.Forms.{Form}
 use Rattle.semantics.specs.Normals.{Normal, top, bottom, fact, opposed, both, either, next, dual_next, until, release, normal, normal_forms}
@@ -20,7 +20,7 @@ use Rattle.normalizing.specs.declared.shape.Joint.TheVariants as of_joint
 use Rattle.normalizing.specs.declared.shape.Shape as shape
 use Rattle.normalizing.specs.declared.shape.Shape.TheVariants as of_shape
 use Rattle.normalizing.specs.Shapes.{shape_of, leaf_node, step_node, joint_node}
-use Rattle.normalizing.specs.NormalWritten.{interval_as, upper_as, normal_written, Put, Full, Normalized, TooLarge}
+use Rattle.normalizing.specs.NormalWritten.{interval_as, normal_written, Put, Full, Normalized, TooLarge}
 
 pub normal_positive : (f : Normal) → 1 ≤ normal_forms f
 unfolding normal_forms

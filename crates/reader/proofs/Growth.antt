@@ -1,5 +1,5 @@
 -- A table grows by the entries of what was read.
-use Rattle.std.proofs.Common.{◌≡◌, ℕ, ◌+◌, ◌-◌, ◌<◌, ◌≤◌, List, [], ◌∷◌, ◌++◌, length, sym, refl, ap, ◌∙◌, subst, append_assoc, arith, length-append}
+use Rattle.std.proofs.Common.{◌≡◌, ℕ, ◌+◌, ◌-◌, ◌≤◌, [], ◌∷◌, ◌++◌, length, sym, refl, ap, ◌∙◌, append_assoc, arith, length-append}
 use Rattle.semantics.specs.Forms.{Form, Interval, forms, top, bottom, fact, opposite, both, either, implies, next, dual_next, eventually, always, until, release}
 use Rattle.tables.specs.declared.node.Node.{Node}
 use Rattle.grammar.specs.declared.operator.Timing.{Timing}

@@ -1,7 +1,6 @@
 -- The table that a form is written into, entry by entry as its parts end.
 use Rattle.std.specs.Prelude.{◌≡◌, ℕ, ◌+◌, ◌-◌, ◌<◌, ◌≤◌, List, [], ◌∷◌, ◌++◌, length}
 use Rattle.bounded.specs.Lists.{listed}
-use Rattle.semantics.specs.Forms as meaning
 use Rattle.semantics.specs.Forms.{Form, forms}
 use Rattle.tables.specs.declared.interval.Interval.{Interval}
 use Rattle.tables.specs.declared.node.Node.{Node}

@@ -1,6 +1,6 @@
 -- Equal codes are equal entries.
 use Rattle.std.proofs.Common.{◌≡◌, ℕ, zero, suc, Bool, cond, eqb, List, [], ◌∷◌, map, get_or, Some, None, Option, sym, refl, ap, ◌∙◌, ap₂}
-use Rattle.semantics.specs.Forms.{Upper, none, upto, Interval}
+use Rattle.semantics.specs.Forms.{Upper, none, upto}
 use Rattle.semantics.specs.Cells.{Cell, cell_accept, cell_reject, cell_holds, cell_fails, cell_and, cell_or, cell_in, cell_out, cell_at_most, cell_above, cell_reset, cell_jump, Entry}
 use Rattle.tables.specs.declared.interval.Interval as code
 use Rattle.tables.specs.declared.normal_node.NormalNode.{NormalNode}

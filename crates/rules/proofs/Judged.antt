@@ -1,5 +1,5 @@
 -- What the tests of a table tell of the form that is written in it.
-use Rattle.std.proofs.Common.{◌≡◌, ℕ, suc, ◌+◌, ◌-◌, ◌<◌, ◌≤◌, Bool, true, false, cond, ltb, List, length, sym, refl, ap, ◌∙◌, subst, ap₂, arith}
+use Rattle.std.proofs.Common.{◌≡◌, ℕ, ◌-◌, ◌<◌, ◌≤◌, Bool, true, false, cond, ltb, List, length, sym, refl, ap, ◌∙◌, subst, arith}
 use Rattle.std.proofs.lemmas.Bool.{lt-ltb, le-ltb, ltb-false}
 use Rattle.refusals.specs.Refusals.{number_of}
 use Rattle.refusals.specs.declared.refusal.Refusal.{Refusal}
@@ -17,7 +17,7 @@ use Rattle.limits.specs.Limits.{depth, every, small, proper}
 use Rattle.limits.specs.Parts.{Earlier, every_node}
 use Rattle.limits.proofs.Written.{root_as_read, depth_as_read, small_written, proper_written, written_earlier}
 use Rattle.rules.specs.Judging.{form_in, judged_or, judged_of, refusal_of}
-use Rattle.rules.specs.Loading.{Answer, unread, judged, OneAnswer}
+use Rattle.rules.specs.Loading.{unread, judged, OneAnswer}
 
 -- the first test that fails decides
 pub many_forms : (n : ℕ) (f : Form) → 64 < forms f → judged_or n f ≡ 3

@@ -1,13 +1,9 @@
 -- What loading finds, step by step.
-use Rattle.std.proofs.Common.{◌≡◌, ℕ, ◌+◌, ◌-◌, ◌<◌, ◌≤◌, true, List, [], ◌++◌, length, sym, refl, ap, ◌∙◌, subst, ap₂, arith}
+use Rattle.std.proofs.Common.{◌≡◌, ℕ, ◌-◌, ◌<◌, ◌≤◌, true, List, [], ◌++◌, length, sym, ap, ◌∙◌, subst, arith}
 use Rattle.refusals.specs.Refusals.{number_of}
 use Rattle.refusals.specs.declared.refusal.Refusal.{Refusal}
 use Rattle.semantics.specs.Forms.{Form, forms}
 use Rattle.semantics.specs.Normals.{normal, normal_forms}
-use Rattle.semantics.specs.Automata.{automaton}
-use Rattle.semantics.specs.Cells.{table, entries, decoded}
-use Rattle.semantics.proofs.Theorems.{tabled}
-use Rattle.tables.specs.CellTables.{cells_of, entries_of}
 use Rattle.tables.specs.Sources.{form_at, forms_from}
 use Rattle.tables.specs.declared.node.Node.{Node}
 use Rattle.tables.specs.declared.normal_node.NormalNode.{NormalNode}

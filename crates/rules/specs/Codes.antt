@@ -1,7 +1,7 @@
 -- The entries of tables as numbers. An invariant must be a fact that holds in one way only, which is known of
 -- equations between numbers; equal codes are equal entries.
 use Rattle.std.specs.Prelude.{ℕ, suc, Bool, List, [], ◌∷◌, map, Some, None, Option}
-use Rattle.semantics.specs.Forms.{Upper, none, upto, Interval}
+use Rattle.semantics.specs.Forms.{Upper, none, upto}
 use Rattle.semantics.specs.Cells.{Cell, cell_accept, cell_reject, cell_holds, cell_fails, cell_and, cell_or, cell_in, cell_out, cell_at_most, cell_above, cell_reset, cell_jump, Entry}
 use Rattle.tables.specs.declared.normal_node.NormalNode.{NormalNode}
 use Rattle.tables.specs.declared.normal_node.NormalNode.TheVariants.{Top, Bottom, Fact, Opposed, Both, Either, Next, DualNext, Until, Release}

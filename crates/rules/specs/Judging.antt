@@ -1,5 +1,5 @@
 -- The limits of a rule, in the order of their numbers.
-use Rattle.std.specs.Prelude.{◌≡◌, ℕ, ◌-◌, ◌≤◌, Bool, true, cond, List, length, nat_lt}
+use Rattle.std.specs.Prelude.{◌≡◌, ℕ, ◌-◌, ◌≤◌, true, cond, List, length, nat_lt}
 use Rattle.semantics.specs.Forms.{Form, forms}
 use Rattle.semantics.specs.Normals.{normal, normal_forms}
 use Rattle.tables.specs.Sources.{form_at, forms_from}

@@ -1,5 +1,5 @@
 -- What the tables of a rule are.
-use Rattle.std.specs.Prelude.{ℕ, ◌-◌, List, length}
+use Rattle.std.specs.Prelude.{◌-◌, List, length}
 use Rattle.bounded.specs.Lists.{listed}
 use Rattle.semantics.specs.Forms.{Form}
 use Rattle.semantics.specs.Normals.{Normal}

@@ -1,29 +1,27 @@
 -- The tables of a normal form can be run, stand for its automaton, and so have the rule's grades.
-use Rattle.std.proofs.Common.{◌≡◌, ℕ, suc, ◌+◌, ◌<◌, ◌≤◌, true, false, List, [], length, get_or, sym, refl, ap, ◌∙◌, subst, ap₂, inl, inr, arith}
+use Rattle.std.proofs.Common.{◌≡◌, ℕ, suc, ◌+◌, ◌<◌, ◌≤◌, true, false, List, [], length, get_or, sym, ap, ◌∙◌, subst, ap₂, inl, inr, arith}
 use Rattle.std.proofs.lemmas.List.{get_or-map, get_or_past, length-map}
 use Rattle.std.proofs.lemmas.Bool.{cases_lt}
 use Rattle.scales.specs.Scales.{Ops, Laws, AtMost}
 use Rattle.logs.specs.declared.event.Event.{Event}
 use Rattle.semantics.specs.Words.{word}
 use Rattle.semantics.specs.Forms.{Form, grade}
-use Rattle.semantics.specs.Normals.{Normal, top, normal, temporal_forms, temporals, waits}
-use Rattle.semantics.specs.Automata as automata
+use Rattle.semantics.specs.Normals.{Normal, top, normal, temporal_forms, waits}
 use Rattle.semantics.specs.Automata.{automaton, reject}
 use Rattle.semantics.specs.Cells as meaning
 use Rattle.semantics.specs.Cells.{Below, clause_of, clauses_onto, table, entries, decoded}
 use Rattle.semantics.specs.Values.{value, run_value, floor, ceiling}
-use Rattle.semantics.specs.Continuations.{Timely, LawfulContinuation}
+use Rattle.semantics.specs.Continuations.{Timely}
 use Rattle.semantics.proofs.Indexed.{all_at}
 use Rattle.semantics.proofs.Decoding.{Reads, table_reads}
 use Rattle.semantics.proofs.Theorems.{tabled, agreement, agreement_within, between_lawful, settled_lawful}
 use Rattle.tables.specs.declared.cell.Cell.{Cell}
 use Rattle.tables.specs.declared.cell.Cell.TheVariants.{Accept}
 use Rattle.tables.specs.declared.cell.Location.{Location}
-use Rattle.tables.specs.CellTables.{cell_of, cells_of, entry_of, entries_of}
+use Rattle.tables.specs.CellTables.{cell_of, entry_of}
 use Rattle.running.specs.declared.boundary.Boundary.{Boundary}
 use Rattle.running.specs.declared.boundary.Boundary.TheVariants.{Run, Lowest, Highest}
 use Rattle.running.specs.Boundaries.{after}
-use Rattle.running.specs.Columns.{held}
 use Rattle.running.specs.Rows.{no_location}
 use Rattle.running.specs.Soundness.{Sound, clauses, automaton_of}
 use Rattle.running.specs.Passes.{worth}

@@ -1,5 +1,5 @@
 -- The clauses of the cells, and the values of the locations, one event back.
-use Rattle.std.proofs.Common.{◌≡◌, ℕ, zero, suc, ◌+◌, ◌-◌, ◌*◌, ◌<◌, ◌≤◌, ◌⊎◌, List, [], ◌∷◌, map, length, get_or, sym, refl, ap, ◌∙◌, subst, inl, inr, arith, below_more}
+use Rattle.std.proofs.Common.{◌≡◌, ℕ, zero, suc, ◌+◌, ◌-◌, ◌<◌, ◌≤◌, ◌⊎◌, List, [], ◌∷◌, length, get_or, sym, refl, ap, ◌∙◌, subst, inl, inr, arith, below_more}
 use Rattle.std.proofs.lemmas.List.{get_or-map, length-map}
 use Rattle.scales.specs.Scales.{Ops}
 use Rattle.logs.specs.declared.event.Event.{Event}
@@ -7,13 +7,13 @@ use Rattle.logs.specs.Logs.{event_at}
 use Rattle.semantics.specs.Words.{word, elapsed}
 use Rattle.semantics.specs.Automata as automata
 use Rattle.semantics.specs.Automata.{Clause, reject, nowhere}
-use Rattle.semantics.specs.Values.{clause_value, value_before, value}
+use Rattle.semantics.specs.Values.{clause_value, value_before}
 use Rattle.semantics.specs.Cells as meaning
 use Rattle.semantics.specs.Cells.{Below, clause_of, located}
 use Rattle.tables.specs.declared.cell.Cell.{Cell}
 use Rattle.tables.specs.declared.cell.Cell.TheVariants.{Accept, Reject, Holds, Fails, And, Or, Inside, Outside, AtMost, Above, Reset, Jump}
 use Rattle.tables.specs.declared.cell.Location.{Location}
-use Rattle.tables.specs.CellTables.{cell_of, cells_of, entry_of, entries_of}
+use Rattle.tables.specs.CellTables.{cell_of, entry_of, entries_of}
 use Rattle.running.specs.declared.boundary.Boundary.{Boundary}
 use Rattle.running.specs.declared.column.Turn.{Turn}
 use Rattle.running.specs.Boundaries.{behind, after}

@@ -1,18 +1,17 @@
 -- The run and the outlook of a rule, from those of its tables.
-use Rattle.std.proofs.Common.{◌≡◌, ℕ, ◌+◌, ◌*◌, ◌<◌, ◌≤◌, Bool, true, false, cond, ◌&&◌, ltb, leb, List, ◌++◌, length, drop, replicate, Some, None, Option, sym, ap, ◌∙◌, subst, ap₂, inl, inr, arith}
+use Rattle.std.proofs.Common.{◌≡◌, ℕ, ◌+◌, ◌*◌, ◌<◌, ◌≤◌, Bool, cond, ◌&&◌, ltb, leb, List, ◌++◌, length, drop, replicate, Some, None, Option, sym, ap, ◌∙◌, subst, ap₂, inl, inr, arith}
 use Rattle.std.proofs.lemmas.Bool.{cases_Bool, and_parts, ltb-false, leb-true}
 use Rattle.refusals.specs.declared.refusal.Refusal.{Refusal}
 use Rattle.refusals.specs.declared.refusal.Refusal.TheVariants.{MemoryTooShort, EventAbsent}
 use Rattle.scales.specs.Scales.{Ops, Laws}
 use Rattle.logs.specs.declared.event.Event.{Event}
 use Rattle.logs.specs.Logs.{Lawful}
-use Rattle.semantics.specs.Cells.{table, entries}
 use Rattle.tables.specs.declared.cell.Cell.{Cell}
 use Rattle.tables.specs.declared.cell.Location.{Location}
 use Rattle.rules.specs.declared.rule.Rule.{Rule}
 use Rattle.rules.specs.Rules.{form_of_rule}
 use Rattle.running.specs.Columns.{held_from}
-use Rattle.running.specs.Runs.{needed, run_refusal, outlook_refusal, Ran, Foreseen}
+use Rattle.running.specs.Runs.{needed, Ran, Foreseen}
 use Rattle.running.specs.Tabulations.{Tabulates}
 use Rattle.running.specs.RuleRuns.{normal_form, grades_for, RuleRan, RuleSeen}
 use Rattle.running.proofs.Connections.{cells_long, locations_long, run_tables_value, rule_graded, rule_foreseen}

@@ -10,9 +10,9 @@ use Rattle.tables.specs.declared.cell.Cell.{Cell}
 use Rattle.tables.specs.declared.cell.Cell.TheVariants.{Accept}
 use Rattle.tables.specs.declared.cell.Location.{Location}
 use Rattle.running.specs.declared.column.Turn.{Turn}
-use Rattle.running.specs.Columns.{held_from, held, Before, Posed, Graded, Framed}
+use Rattle.running.specs.Columns.{held, Before, Posed, Graded, Framed}
 use Rattle.running.specs.Rows.{no_location, Moved}
-use Rattle.running.specs.Passes.{worth, cell_grade, Column, Settled, Stage, Laid, Turned, Rest, StartDone, EventDone}
+use Rattle.running.specs.Passes.{worth, Column, Settled, Stage, Laid, Turned, Rest, StartDone, EventDone}
 use Rattle.running.proofs.Places.{place_below}
 use Rattle.running.proofs.Grading.{names_of, column_is, worth_is}
 

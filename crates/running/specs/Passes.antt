@@ -1,9 +1,9 @@
 -- What stands in memory while an automaton is run from the last event of a log to the first.
-use Rattle.std.specs.Prelude.{◌≡◌, ℕ, suc, ◌+◌, ◌-◌, ◌*◌, ◌<◌, ◌≤◌, max, List, length, slice_index_or}
+use Rattle.std.specs.Prelude.{◌≡◌, ℕ, suc, ◌+◌, ◌*◌, ◌<◌, ◌≤◌, max, List, length, slice_index_or}
 use Rattle.scales.specs.Scales.{Ops}
 use Rattle.logs.specs.declared.event.Event.{Event}
 use Rattle.logs.specs.Logs.{event_at}
-use Rattle.semantics.specs.Words.{word, elapsed}
+use Rattle.semantics.specs.Words.{word}
 use Rattle.semantics.specs.Automata.{reject}
 use Rattle.semantics.specs.Values.{clause_value, value}
 use Rattle.tables.specs.declared.cell.Cell.{Cell}

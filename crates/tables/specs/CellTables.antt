@@ -1,5 +1,5 @@
 -- The cells and locations of the code as those of the translation.
-use Rattle.std.specs.Prelude.{ℕ, List, map}
+use Rattle.std.specs.Prelude.{List, map}
 use Rattle.semantics.specs.Cells as meaning
 use Rattle.tables.specs.Intervals.{upper_of, interval_of}
 use Rattle.tables.specs.declared.cell.Cell.{Cell}

@@ -1,6 +1,5 @@
 -- What a table of forms stands for: each entry a tree over those that the earlier entries stand for.
-use Rattle.std.specs.Prelude.{ℕ, ◌<◌, List, [], ◌∷◌, ◌++◌, slice_index_or}
-use Rattle.semantics.specs.Forms as meaning
+use Rattle.std.specs.Prelude.{ℕ, List, [], ◌∷◌, ◌++◌, slice_index_or}
 use Rattle.semantics.specs.Forms.{Form}
 use Rattle.tables.specs.Intervals.{interval_of}
 use Rattle.tables.specs.declared.node.Node.{Node}

@@ -1,5 +1,5 @@
 -- A pass over a table of normal forms, entry by entry.
-use Rattle.std.proofs.Common.{◌≡◌, ℕ, ◌+◌, ◌-◌, ◌*◌, ◌<◌, ◌≤◌, List, [], ◌∷◌, ◌++◌, length, get_or, take, Ok, Err, Result, sym, refl, ap, ◌∙◌, ap₂, arith, length-append, MatchResult}
+use Rattle.std.proofs.Common.{◌≡◌, ℕ, ◌+◌, ◌*◌, ◌<◌, ◌≤◌, List, [], ◌∷◌, ◌++◌, length, get_or, take, Ok, Err, Result, refl, ap, ◌∙◌, arith, length-append, MatchResult}
 use Rattle.std.proofs.lemmas.List.{take_more, length-map}
 use Rattle.tables.specs.CellTables.{cell_of, entry_of, cells_of, entries_of}
 use Rattle.tables.specs.declared.cell.Cell.{Cell}

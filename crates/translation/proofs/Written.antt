@@ -1,12 +1,11 @@
 -- What a pass over the table of a normal form writes: the cells and locations of the translation.
-use Rattle.std.proofs.Common.{◌≡◌, ℕ, suc, ◌+◌, ◌-◌, ◌<◌, ◌≤◌, Bool, true, false, List, [], ◌∷◌, ◌++◌, length, get_or, sym, refl, ap, ◌∙◌, ap₂, append_assoc, zero-add, arith, length-append}
+use Rattle.std.proofs.Common.{◌≡◌, ℕ, ◌+◌, ◌-◌, Bool, true, false, List, [], ◌∷◌, ◌++◌, length, sym, refl, ap, ◌∙◌, ap₂, append_assoc, zero-add, arith, length-append}
 use Rattle.std.proofs.lemmas.List.{append-nil}
 use Rattle.semantics.specs.Forms as meaning
 use Rattle.semantics.specs.Normals.{Normal, top, bottom, fact, opposed, both, either, next, dual_next, until, release, normal_forms, temporals}
-use Rattle.semantics.specs.Cells.{Cell, cell_accept, cell_reject, cell_holds, cell_fails, cell_and, cell_or, cell_in, cell_out, cell_at_most, cell_above, cell_reset, size, five, nine, cells, table, Entry, entries_of, entries}
-use Rattle.semantics.proofs.Cells.{size_positive, length-cells, length-entries_of}
+use Rattle.semantics.specs.Cells.{Cell, cell_accept, cell_reject, cell_holds, cell_fails, cell_and, cell_or, cell_in, cell_out, cell_at_most, cell_above, cell_reset, size, five, nine, cells, table, entries_of, entries}
+use Rattle.semantics.proofs.Cells.{length-cells, length-entries_of}
 use Rattle.semantics.proofs.Indexed.{All, all_append, all_at}
-use Rattle.tables.specs.Intervals.{interval_of}
 use Rattle.tables.specs.declared.normal_node.NormalNode.{NormalNode}
 use Rattle.tables.specs.declared.normal_node.NormalNode.TheVariants.{Top, Bottom, Fact, Opposed, Both, Either, Next, DualNext, Until, Release}
 use Rattle.limits.proofs.Onto.{Last, last_at, last_before}

@@ -1,4 +1,4 @@
-use Rattle.std.proofs.Common.{refl, ap}
+use Rattle.std.proofs.Common.{refl}
 use Rattle.grammar.specs.Grammar.{absent, given, whole}
 use Rattle.grammar.proofs.Absences.{no_bounds, some_weaker}
 use Rattle.grammar.proofs.bounds.bounds_at.Goals as goal

@@ -1,4 +1,3 @@
-use Rattle.std.proofs.Common.{refl, ap}
 use Rattle.grammar.proofs.Absences.{no_comma, no_to, no_close}
 use Rattle.grammar.proofs.bounds.closed.Goals as goal
 

@@ -1,5 +1,5 @@
-use Rattle.std.proofs.Common.{◌≡◌, sym, refl, ap, ◌∙◌, subst, arith}
-use Rattle.grammar.specs.Grammar.{whole, Symbol}
+use Rattle.std.proofs.Common.{sym, refl}
+use Rattle.grammar.specs.Grammar.{whole}
 use Rattle.grammar.proofs.Absences.{bare_joining, sign_as}
 use Rattle.grammar.proofs.operator.joining_at.Goals as goal
 

@@ -1,4 +1,4 @@
-use Rattle.std.proofs.Common.{◌≡◌, sym, refl, ap, ◌∙◌, arith, rules, ltb-false, ltb-true}
+use Rattle.std.proofs.Common.{sym, ◌∙◌, arith, ltb-false, ltb-true}
 use Rattle.grammar.proofs.Fronts.{skip_space, skip_none, skip_other}
 use Rattle.grammar.proofs.symbol.skipped.Goals as goal
 

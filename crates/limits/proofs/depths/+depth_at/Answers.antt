@@ -1,4 +1,4 @@
-use Rattle.std.proofs.Common.{◌≡◌, ◌+◌, max, sym, ap, ◌∙◌, subst, ap₂, arith}
+use Rattle.std.proofs.Common.{◌+◌, max, sym, ap, ◌∙◌, subst, ap₂, arith}
 use Rattle.limits.specs.Parts.{Below}
 use Rattle.limits.proofs.Decoding.{depth_there, depth_over}
 use Rattle.limits.proofs.depths.+depth_at.Goals as goal

@@ -1,8 +1,5 @@
-use Rattle.std.proofs.Common.{◌≡◌, sym, ap, ◌∙◌, subst, rules}
 use Rattle.std.proofs.lemmas.Result.{err_from_is_err_and, MatchResult-weaker}
-use Rattle.semantics.specs.Normals.{normal}
-use Rattle.tables.specs.Sources.{form_at, forms_from}
-use Rattle.normalizing.proofs.Making.{leaf_step, leaf_full, step_step, step_full, step_over, joint_step, joint_full, joint_left, joint_right, leaf_normal, normal_there, put_as, normalized_as, large_as}
+use Rattle.normalizing.proofs.Making.{leaf_step, leaf_full, step_step, step_full, step_over, joint_step, joint_full, joint_left, joint_right, normal_there, put_as, normalized_as, large_as}
 use Rattle.normalizing.proofs.normalize.+normalize.Goals as goal
 
 pub returns-in_err-under-in-Stepped : goal.returns-in_err-under-in-Stepped

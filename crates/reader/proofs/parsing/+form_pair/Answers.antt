@@ -1,9 +1,9 @@
-use Rattle.std.proofs.Common.{◌≡◌, sym, refl, ap, ◌∙◌, subst, arith, rules, ltb-false, ltb-true}
+use Rattle.std.proofs.Common.{sym, arith}
 use Rattle.grammar.proofs.Lengths.{symbol_shorter, bounds_shorter, joining_shorter}
 use Rattle.reader.proofs.Growth.{forms_positive}
 use Rattle.grammar.proofs.Absences.{some_weaker, sign_as}
-use Rattle.grammar.proofs.Unique.{from_pair, from_opposite, from_timed}
-use Rattle.reader.proofs.Steps.{plain_step, opposite_step, timed_step, pair_step, pair_form, form_some, no_timed_bounds, no_timed_form, no_other, no_timing, no_joining, no_right, no_end}
+use Rattle.grammar.proofs.Unique.{from_pair, from_opposite}
+use Rattle.reader.proofs.Steps.{plain_step, opposite_step, timed_step, pair_step, pair_form, form_some, no_timed_bounds, no_timed_form, no_other, no_joining, no_right, no_end}
 use Rattle.reader.proofs.parsing.+form_pair.Goals as goal
 
 pub form-returns-in_err-sign : goal.form-returns-in_err-sign

@@ -1,4 +1,4 @@
-use Rattle.std.proofs.Common.{◌≡◌, sym, refl, ap, ◌∙◌, subst, arith}
+use Rattle.std.proofs.Common.{arith}
 use Rattle.semantics.specs.Forms.{top, bottom, fact}
 use Rattle.grammar.specs.Grammar.{is_one, is_zero, is_fact}
 use Rattle.grammar.proofs.Absences.{no_plain}

@@ -1,4 +1,3 @@
-use Rattle.std.proofs.Common.{length}
 use Rattle.running.specs.Columns.{Graded, Framed}
 use Rattle.running.proofs.column.column.Given as goal
 

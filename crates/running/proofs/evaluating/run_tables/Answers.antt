@@ -1,4 +1,4 @@
-use Rattle.std.proofs.Common.{◌≡◌, ◌*◌, ◌≤◌, length, refl, ap, arith}
+use Rattle.std.proofs.Common.{◌*◌, ◌≤◌, length, refl, ap, arith}
 use Rattle.running.specs.declared.boundary.Boundary.TheVariants.{Run}
 use Rattle.running.specs.Runs.{needed}
 use Rattle.running.proofs.Evaluations.{run_accepted, drawn}

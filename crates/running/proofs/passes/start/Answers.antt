@@ -1,4 +1,4 @@
-use Rattle.std.proofs.Common.{◌≡◌, ◌-◌, length, refl, ap, ◌∙◌, inr, arith}
+use Rattle.std.proofs.Common.{◌≡◌, length, refl, ap, inr, arith}
 use Rattle.logs.specs.declared.event.Event.{Event}
 use Rattle.semantics.specs.Words.{word, elapsed}
 use Rattle.running.proofs.Stages.{posed, start_done, start_rest}

@@ -1,4 +1,3 @@
-use Rattle.std.proofs.Common.{◌≤◌}
 use Rattle.running.specs.Passes.{StartsDone, Rest}
 use Rattle.running.proofs.passes.starts.Given as goal
 

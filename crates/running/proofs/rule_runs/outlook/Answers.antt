@@ -1,4 +1,4 @@
-use Rattle.std.proofs.Common.{◌≡◌, length, subst, MatchResult}
+use Rattle.std.proofs.Common.{length, subst}
 use Rattle.std.proofs.lemmas.Result.{MatchResult-weaker}
 use Rattle.rules.proofs.Facts.{normals_few}
 use Rattle.running.specs.Runs.{outlook_refusal, Refused}

@@ -1,4 +1,4 @@
-use Rattle.std.proofs.Common.{◌≡◌, ℕ, ◌+◌, ◌-◌, ◌<◌, ◌≤◌, List, [], ◌∷◌, ◌++◌, length, get_or, take, sym, refl, ap, ◌∙◌, ap₂, append_assoc, arith, length-append, length-take}
+use Rattle.std.proofs.Common.{◌+◌, get_or, take, sym, ap, ◌∙◌, ap₂, arith}
 use Rattle.std.proofs.lemmas.List.{take_all, length-take-le}
 use Rattle.tables.specs.declared.normal_node.NormalNode.TheVariants.{Top}
 use Rattle.translation.specs.Building.{widths}

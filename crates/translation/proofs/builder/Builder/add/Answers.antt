@@ -1,4 +1,4 @@
-use Rattle.std.proofs.Common.{◌≡◌, ℕ, ◌+◌, ◌-◌, ◌<◌, ◌≤◌, true, false, List, [], ◌∷◌, ◌++◌, length, get_or, take, sym, refl, ap, ◌∙◌, ap₂, append_assoc, arith, length-append, length-take}
+use Rattle.std.proofs.Common.{true, false, sym, ap, ◌∙◌}
 use Rattle.bounded.specs.Lists.{listed}
 use Rattle.semantics.specs.Cells.{five, nine, cell_and, cell_or, cell_in, cell_out, cell_at_most, cell_above}
 use Rattle.tables.specs.Intervals.{interval_of, upper_of}
