@@ -24,12 +24,13 @@ use Rattle.evaluation.specs.declared.boundary.Boundary.{Boundary}
 use Rattle.evaluation.specs.Boundaries.{after}
 use Rattle.evaluation.specs.Columns.{held_from}
 use Rattle.evaluation.specs.Rows.{no_location}
-use Rattle.evaluation.specs.Soundness.{Sound, Homes, clauses, automaton_of}
+use Rattle.evaluation.specs.Soundness.{Onward, Sound, Homes, clauses, automaton_of}
 use Rattle.evaluation.specs.Passes.{worth}
 use Rattle.evaluation.specs.Evaluations.{needed, value_over, Evaluated}
 use Rattle.evaluation.specs.RuleEvaluations.{normal_form, grades_for, memory_refusal, RuleEvaluated}
 use Rattle.evaluation.proofs.Grading.{location_at}
 use Rattle.evaluation.proofs.Homing.{automaton_home}
+use Rattle.evaluation.proofs.Onwards.{table_onward}
 
 -- the cells and locations are those of the normal form's translation
 pub record Tabulates (N : Normal) (cells : List Cell) (locations : List Location) : Type 0 where
@@ -83,6 +84,10 @@ module _ (N : Normal) (cells : List Cell) (locations : List Location) (T : Tabul
             let inside : k < length (table N) = omega (arith, cells_long) in
             subst (λ x. Below (length locations) k x) (cell_at k h)
             (subst (λ n. Below n k (get_or (table N) k meaning.Cell.cell_reject)) locations_long (tab.earlier k inside));
+        onward =
+            λ k h.
+            let inside : k < length (table N) = omega (arith, cells_long) in
+            subst Onward (cell_at k h) (table_onward N meaning.Cell.cell_reject k inside);
         reads = reads_at;
         rooted =
             λ l h.

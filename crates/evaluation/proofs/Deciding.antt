@@ -1,5 +1,5 @@
 -- Behind its deadline a clause is decided, and stays so.
-use Rattle.std.proofs.Common.{◌≡◌, ℕ, suc, ◌+◌, ◌-◌, ◌<◌, ◌≤◌, min, max, Bool, true, false, not, leb, ◌⊎◌, List, length, get_or, Option, sym, refl, ap, ◌∙◌, ap₂, inl, inr, ⊎_elim, true≢false, arith}
+use Rattle.std.proofs.Common.{◌≡◌, ℕ, ◌<◌, ◌≤◌, Bool, true, false, not, ◌⊎◌, List, length, get_or, Option, sym, refl, ap, ◌∙◌, ap₂, inl, inr, ⊎_elim, true≢false, arith}
 use Rattle.std.proofs.lemmas.Bool.Decides.{nat_tests}
 use Rattle.scales.specs.Scales.{Ops, Laws}
 use Rattle.scales.proofs.Orders.{low_right, high_right, high_join, join_high, low_meet, meet_low}
@@ -12,7 +12,7 @@ use Rattle.tables.specs.declared.interval.Interval as of_interval
 use Rattle.tables.specs.declared.cell.Cell.{Cell}
 use Rattle.tables.specs.declared.cell.Cell.TheVariants.{Accept, Reject, Holds, Fails, And, Or, Inside, Outside, AtMost, Above, Reset, Jump}
 use Rattle.tables.specs.declared.cell.Location.{Location}
-use Rattle.tables.specs.Intervals.{upper_of, interval_of}
+use Rattle.tables.specs.Intervals.{upper_of}
 use Rattle.tables.specs.CellTables.{cell_of}
 use Rattle.evaluation.specs.Deadlines.{sooner, later, combined, unless, deadline}
 use Rattle.evaluation.specs.Soundness.{Sound, clauses}

@@ -1,5 +1,5 @@
 -- The clauses of the cells, and the values of the locations, one event back.
-use Rattle.std.proofs.Common.{◌≡◌, ℕ, zero, suc, ◌+◌, ◌-◌, ◌*◌, ◌<◌, ◌≤◌, List, [], ◌∷◌, map, length, get_or, sym, refl, ap, ◌∙◌, subst, arith, below_more}
+use Rattle.std.proofs.Common.{◌≡◌, ℕ, zero, suc, ◌+◌, ◌-◌, ◌<◌, ◌≤◌, List, [], ◌∷◌, length, get_or, sym, refl, ap, ◌∙◌, subst, arith, below_more}
 use Rattle.std.proofs.lemmas.List.{get_or-map, length-map}
 use Rattle.scales.specs.Scales.{Ops}
 use Rattle.logs.specs.declared.event.Event.{Event}
@@ -7,35 +7,35 @@ use Rattle.logs.specs.Logs.{event_at}
 use Rattle.semantics.specs.Words.{word, elapsed}
 use Rattle.semantics.specs.Automata as automata
 use Rattle.semantics.specs.Automata.{Clause, reject, nowhere}
-use Rattle.semantics.specs.Values.{clause_value, value_before, value}
+use Rattle.semantics.specs.Values.{clause_value, value_before}
 use Rattle.semantics.specs.Cells as meaning
 use Rattle.semantics.specs.Cells.{Below, clause_of, located}
 use Rattle.tables.specs.declared.cell.Cell.{Cell}
 use Rattle.tables.specs.declared.cell.Cell.TheVariants.{Accept, Reject, Holds, Fails, And, Or, Inside, Outside, AtMost, Above, Reset, Jump}
 use Rattle.tables.specs.declared.cell.Location.{Location}
-use Rattle.tables.specs.CellTables.{cell_of, cells_of, entry_of, entries_of}
+use Rattle.tables.specs.CellTables.{cell_of, entry_of, entries_of}
 use Rattle.evaluation.specs.declared.boundary.Boundary.{Boundary}
 use Rattle.evaluation.specs.declared.column.Turn.{Turn}
 use Rattle.evaluation.specs.Boundaries.{behind, after}
 use Rattle.evaluation.specs.Columns.{step, held_from, held, Names, Graded}
 use Rattle.evaluation.specs.Rows.{no_location}
-use Rattle.evaluation.specs.Soundness.{Sound, clauses, automaton_of}
+use Rattle.evaluation.specs.Soundness.{Sound, Onward, clauses, automaton_of}
 use Rattle.evaluation.specs.Passes.{worth, cell_grade, Column}
 use Rattle.evaluation.proofs.Columns.{step_same}
 
-pub names_of : (n k : ℕ) (Q : ℕ → Type 0) → ((l : ℕ) → 0 < l → l < n → Q l) → (c : Cell) → Below n k (cell_of c) → Names Q k c
-names_of n k Q there Accept h = tt
-names_of n k Q there Reject h = tt
-names_of n k Q there (Holds p) h = tt
-names_of n k Q there (Fails p) h = tt
-names_of n k Q there (And a b) h = h
-names_of n k Q there (Or a b) h = h
-names_of n k Q there (Inside I) h = tt
-names_of n k Q there (Outside I) h = tt
-names_of n k Q there (AtMost u) h = tt
-names_of n k Q there (Above u) h = tt
-names_of n k Q there (Reset a) h = h
-names_of n k Q there (Jump l) h = there l h.0 h.1
+pub names_of : (n k : ℕ) (Q : ℕ → Type 0) → ((l : ℕ) → 0 < l → l < n → Q l) → (c : Cell) → Below n k (cell_of c) → Onward (cell_of c) → Names Q k c
+names_of n k Q there Accept h o = tt
+names_of n k Q there Reject h o = tt
+names_of n k Q there (Holds p) h o = tt
+names_of n k Q there (Fails p) h o = tt
+names_of n k Q there (And a b) h o = h
+names_of n k Q there (Or a b) h o = h
+names_of n k Q there (Inside I) h o = tt
+names_of n k Q there (Outside I) h o = tt
+names_of n k Q there (AtMost u) h o = tt
+names_of n k Q there (Above u) h o = tt
+names_of n k Q there (Reset a) h o = h
+names_of n k Q there (Jump l) h o = there l o h
 
 located_at : (T : List Clause) (es : List meaning.Entry) (l : ℕ) (d : meaning.Entry) → l < length es →
     get_or (located T es) l nowhere ≡ record { root = get_or T (get_or es l d).root reject; final = (get_or es l d).final }
@@ -103,7 +103,7 @@ module _ (cells : List Cell) (locations : List Location) where
           graded k inside
           ∙ step_same S e 0 (held_from S gs t.base) value (held_from S gs t.base) value
           (λ l. held S t.count gs l i) next (λ l. (0 < l) × (l < length locations)) k before before (λ l q. row l q.0 q.1)
-          (get_or cells k Accept) (names_of (length locations) k (λ l. (0 < l) × (l < length locations)) (λ l p q. (p, q)) (get_or cells k Accept) (sound.earlier k inside))
+          (get_or cells k Accept) (names_of (length locations) k (λ l. (0 < l) × (l < length locations)) (λ l p q. (p, q)) (get_or cells k Accept) (sound.earlier k inside) (sound.onward k inside))
           ∙ ap (λ x. step S x 0 value value next (get_or cells k Accept)) told
           ∙ ap (λ x. step S (event_at es i) x value value next (get_or cells k Accept)) still
           ∙ sym (cell_grade_is i i k inside) in

@@ -1,5 +1,5 @@
 -- With its own start, each location of an automaton jumps to itself alone.
-use Rattle.std.proofs.Common.{◌≡◌, ℕ, suc, ◌+◌, ◌<◌, List, [], ◌∷◌, ◌++◌, length, get_or, subst, arith}
+use Rattle.std.proofs.Common.{◌≡◌, ℕ, suc, ◌+◌, ◌<◌, length, get_or, subst, arith}
 use Rattle.semantics.specs.Normals.{Normal, top, bottom, fact, opposed, both, either, next, dual_next, until, release, temporals}
 use Rattle.semantics.specs.Automata.{Location, transition, locations_of, automaton, nowhere}
 use Rattle.semantics.proofs.Indexed.{All, all_append, all_at}

@@ -10,3 +10,4 @@ pub mod MemoryLeft
 pub mod Homing
 pub mod Connections
 pub mod Interpolating
+pub mod Onwards

@@ -1,5 +1,5 @@
 -- The row of a location, from one start to the one before.
-use Rattle.std.proofs.Common.{◌≡◌, ℕ, suc, ◌+◌, ◌-◌, ◌*◌, ◌<◌, ◌≤◌, false, ◌≢◌, ◌⊎◌, List, length, get_or, set, sym, refl, ap, ◌∙◌, subst, ap₂, inl, inr, ⊎_elim, true≢false, add-mul, one-mul, arith, get_or-set_other, get_or-set_same}
+use Rattle.std.proofs.Common.{◌≡◌, ℕ, suc, ◌+◌, ◌-◌, ◌*◌, ◌<◌, ◌≤◌, ◌≢◌, List, length, get_or, set, sym, refl, ap, ◌∙◌, subst, ap₂, inl, inr, ⊎_elim, true≢false, add-mul, one-mul, arith, get_or-set_other, get_or-set_same}
 use Rattle.std.proofs.lemmas.Bool.{cases_eq, cases_lt}
 use Rattle.std.proofs.lemmas.Nat.{mul-le}
 use Rattle.scales.specs.Scales.{Ops, Laws}
@@ -7,7 +7,7 @@ use Rattle.logs.specs.declared.event.Event.{Event}
 use Rattle.logs.specs.Logs.{event_at}
 use Rattle.logs.proofs.Events.{event_here}
 use Rattle.semantics.specs.Words.{word, elapsed}
-use Rattle.semantics.specs.Forms.{Upper, none, within_upper}
+use Rattle.semantics.specs.Forms.{Upper, within_upper}
 use Rattle.semantics.specs.Automata.{reject}
 use Rattle.semantics.specs.Values.{test}
 use Rattle.semantics.specs.Continuations.{Timely}
@@ -16,7 +16,7 @@ use Rattle.tables.specs.declared.cell.Location.{Location}
 use Rattle.tables.specs.Intervals.{upper_of}
 use Rattle.evaluation.specs.declared.column.Turn.{Turn}
 use Rattle.evaluation.specs.declared.segments.Segment.{Segment}
-use Rattle.evaluation.specs.Columns.{held_from, held, Framed}
+use Rattle.evaluation.specs.Columns.{held, Framed}
 use Rattle.evaluation.specs.Rows.{no_location}
 use Rattle.evaluation.specs.Soundness.{clauses}
 use Rattle.evaluation.specs.Deadlines.{deadline}

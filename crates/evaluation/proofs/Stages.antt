@@ -1,6 +1,6 @@
 -- The memory from one event to the one before.
-use Rattle.std.proofs.Common.{◌≡◌, ℕ, suc, ◌+◌, ◌-◌, ◌*◌, ◌<◌, ◌≤◌, ◌≢◌, List, length, get_or, sym, refl, ap, ◌∙◌, subst, inl, inr, ⊎_elim, arith}
-use Rattle.std.proofs.lemmas.Bool.{cases_eq, cases_lt}
+use Rattle.std.proofs.Common.{◌≡◌, ℕ, suc, ◌+◌, ◌-◌, ◌*◌, ◌<◌, ◌≤◌, ◌≢◌, List, length, get_or, sym, ◌∙◌, subst, ⊎_elim, arith}
+use Rattle.std.proofs.lemmas.Bool.{cases_eq}
 use Rattle.scales.specs.Scales.{Ops}
 use Rattle.logs.specs.declared.event.Event.{Event}
 use Rattle.logs.specs.Logs.{event_at, Lawful, Tells}
@@ -9,9 +9,9 @@ use Rattle.tables.specs.declared.cell.Cell.{Cell}
 use Rattle.tables.specs.declared.cell.Cell.TheVariants.{Accept}
 use Rattle.tables.specs.declared.cell.Location.{Location}
 use Rattle.evaluation.specs.declared.column.Turn.{Turn}
-use Rattle.evaluation.specs.Columns.{held_from, held, Before, Posed, Graded, Framed}
-use Rattle.evaluation.specs.Rows.{no_location, Rooted, Moved}
-use Rattle.evaluation.specs.Passes.{worth, cell_grade, Column, Fresh, Settled, Laid, Turned, Timed, RowAt, RowsDone, Rest, EventDone}
+use Rattle.evaluation.specs.Columns.{held, Before, Posed, Graded, Framed}
+use Rattle.evaluation.specs.Rows.{no_location, Moved}
+use Rattle.evaluation.specs.Passes.{worth, Fresh, Settled, Laid, Turned, Timed, RowsDone, Rest, EventDone}
 use Rattle.evaluation.proofs.Places.{place_below}
 use Rattle.evaluation.proofs.Grading.{names_of, column_is, worth_is}
 
@@ -40,7 +40,7 @@ module _ (cells : List Cell) (locations : List Location) (t : Turn) (m : ℕ) (t
         started = turned.begun;
         logged = turned.logged;
         few = laid.few;
-        named = λ k h. names_of (length locations) k (Before t) (λ l p q. first l t.at q turned.begun turned.logged) (get_or cells k Accept) (laid.sound.earlier k h);
+        named = λ k h. names_of (length locations) k (Before t) (λ l p q. first l t.at q turned.begun turned.logged) (get_or cells k Accept) (laid.sound.earlier k h) (laid.sound.onward k h);
         fits = laid.fits;
       }
 

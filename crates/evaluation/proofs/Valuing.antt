@@ -1,5 +1,5 @@
 -- The value and the horizon of a cell with a start before the event, from those of the cells that it names.
-use Rattle.std.proofs.Common.{◌≡◌, ℕ, ◌+◌, ◌<◌, ◌≤◌, not, List, length, get_or, Option, sym, refl, ap, ◌∙◌, subst, arith}
+use Rattle.std.proofs.Common.{◌≡◌, ℕ, ◌<◌, not, List, length, get_or, Option, sym, refl, ap, ◌∙◌, subst, arith}
 use Rattle.scales.specs.Scales.{Ops}
 use Rattle.logs.specs.declared.event.Event.{Event}
 use Rattle.semantics.specs.Forms.{Upper, none, inside, within_upper}

@@ -1,6 +1,6 @@
 -- The clock reading above which a clause is decided, whatever its other parts say.
-use Rattle.std.specs.Prelude.{ℕ, min, max, Bool, true, false, cond, not}
-use Rattle.semantics.specs.Forms.{Interval, Upper, none, upto}
+use Rattle.std.specs.Prelude.{min, max, Bool, true, false, cond, not}
+use Rattle.semantics.specs.Forms.{Upper, none, upto}
 use Rattle.semantics.specs.Automata.{Clause, accept, reject, holds, fails, and, or, in_interval, out_of_interval, at_most, above, reset, jump}
 
 -- the earlier of two deadlines, where none is never

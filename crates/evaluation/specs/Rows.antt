@@ -1,5 +1,5 @@
 -- The rows of memory: one for each location, with a place for each event.
-use Rattle.std.specs.Prelude.{◌≡◌, ℕ, ◌+◌, ◌-◌, ◌*◌, ◌<◌, ◌≤◌, false, ◌≢◌, List, length, get_or, slice_index_or}
+use Rattle.std.specs.Prelude.{◌≡◌, ℕ, ◌+◌, ◌*◌, ◌<◌, ◌≤◌, false, ◌≢◌, List, length, get_or, slice_index_or}
 use Rattle.scales.specs.Scales.{Ops}
 use Rattle.tables.specs.declared.cell.Location.{Location}
 use Rattle.evaluation.specs.declared.boundary.Boundary.{Boundary}

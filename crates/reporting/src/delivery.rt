@@ -7,8 +7,8 @@ ghost use Rattle.scales.specs.Doubts.{doubt};
 ghost use Rattle.semantics.specs.Words.{word};
 ghost use Rattle.semantics.specs.Forms as meaning;
 ghost use Rattle.rules.specs.Rules.{form_of_rule};
-ghost use Rattle.evaluation.specs.RuleEvaluations.{memory_refusal, Refused, grades_for};
-ghost use Rattle.running.specs.Runs.{RuleRan};
+ghost use Rattle.running.specs.Runs.{run_refusal, Refused};
+ghost use Rattle.running.specs.RuleRuns.{RuleRan, grades_for};
 ghost use Rattle.reporting.specs.Listing.{listed_by};
 ghost use Rattle.reporting.specs.Pages.{written};
 ghost use Rattle.reporting.specs.Reports.{memory_for};
@@ -42,7 +42,7 @@ pub(crate) fn deliver(page: &Page, out: &mut [u8]) -> Result<usize, Refusal>
 
 // The run in memory that is lent as a slice.
 fn run_in<L: Log>(rule: &Rule, log: &L, grades: &mut [Doubt]) -> Result<usize, Refusal>
-    ensures { MatchResult result (λ n. RuleRan doubt rule.now (L.events log.now) n grades.old grades.new) (λ e. Refused (memory_refusal (grades_for rule.now (L.events log.now)) (length grades.old)) e grades.old grades.new) }
+    ensures { MatchResult result (λ n. RuleRan doubt rule.now (L.events log.now) n grades.old grades.new) (λ e. Refused (run_refusal (grades_for rule.now (L.events log.now)) (length grades.old)) e grades.old grades.new) }
 {
     let mut table = WorkingTable { grades };
     run(rule, log, &mut table)

@@ -12,7 +12,7 @@ Stands A l x = get_or A (l + 1) nowhere ≡ x
 abbrev pub Placed : List Location → ℕ → Normal → Type 0
 Placed A k f = All (Stands A) k (locations_of k f)
 
-length-locations : (f : Normal) (k : ℕ) → length (locations_of k f) ≡ temporals f
+pub length-locations : (f : Normal) (k : ℕ) → length (locations_of k f) ≡ temporals f
 unfolding locations_of temporals
 length-locations top k = refl
 length-locations bottom k = refl

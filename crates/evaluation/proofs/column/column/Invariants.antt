@@ -1,4 +1,3 @@
-use Rattle.std.proofs.Common.{length}
 use Rattle.evaluation.specs.Columns.{Graded, Framed}
 use Rattle.evaluation.proofs.column.column.Given as goal
 

@@ -1,4 +1,4 @@
-use Rattle.std.proofs.Common.{◌≡◌, not, refl, ap, ◌∙◌, ap₂}
+use Rattle.std.proofs.Common.{not, refl, ◌∙◌, ap₂}
 use Rattle.evaluation.specs.Deadlines.{combined}
 use Rattle.evaluation.proofs.Deciding.{deadline_at, undecided}
 use Rattle.evaluation.proofs.deadlines.+deadline_of.Goals as goal

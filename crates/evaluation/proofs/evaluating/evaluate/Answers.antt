@@ -1,5 +1,4 @@
-use Rattle.std.proofs.Common.{◌≡◌, ◌*◌, ◌<◌, ◌≤◌, length, sym, refl, ap, ◌∙◌, arith}
-use Rattle.std.proofs.lemmas.Bool.Decides.{nat_tests}
+use Rattle.std.proofs.Common.{◌*◌, ◌<◌, ◌≤◌, length, refl, ap, arith}
 use Rattle.rules.proofs.Facts.{normals_few}
 use Rattle.evaluation.specs.Evaluations.{needed}
 use Rattle.evaluation.specs.RuleEvaluations.{normal_form, grades_for}

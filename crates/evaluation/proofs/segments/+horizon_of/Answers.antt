@@ -1,6 +1,6 @@
-use Rattle.std.proofs.Common.{◌≡◌, refl, ◌∙◌, ap₂}
+use Rattle.std.proofs.Common.{refl, ◌∙◌, ap₂}
 use Rattle.evaluation.specs.Deadlines.{sooner}
-use Rattle.evaluation.proofs.Valuing.{Plain, horizon_at, endless}
+use Rattle.evaluation.proofs.Valuing.{horizon_at, endless}
 use Rattle.evaluation.proofs.segments.+horizon_of.Goals as goal
 
 pub returns-in-And : goal.returns-in-And

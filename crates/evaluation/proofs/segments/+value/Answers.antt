@@ -1,7 +1,7 @@
-use Rattle.std.proofs.Common.{◌≡◌, ◌+◌, ◌<◌, not, length, refl, ap, ◌∙◌, ap₂, arith}
+use Rattle.std.proofs.Common.{◌+◌, ◌<◌, not, length, refl, ap, ◌∙◌, ap₂, arith}
 use Rattle.std.proofs.lemmas.List.{get_or_read}
 use Rattle.semantics.specs.Values.{test}
-use Rattle.evaluation.proofs.Valuing.{Plain, named, valued, renewed, elsewhere}
+use Rattle.evaluation.proofs.Valuing.{named, valued, renewed, elsewhere}
 use Rattle.evaluation.proofs.segments.+value.Goals as goal
 
 pub returns-in-And : goal.returns-in-And

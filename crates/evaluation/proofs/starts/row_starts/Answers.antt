@@ -32,11 +32,11 @@ loop-s-preserved g c =
     let reached = c.loop-s.invariant.2 in
     let fitting : Fitting S laws cells locations t (length old) turned times l c.requires.there old clock c.if-not-at_most-2.segment =
     elim c.if-not-at_most-2.branch [
-      | then-not-at-most-2 w ↦
+      | then-not-at_most-2 w ↦
           let made = w.segment_at-segment-then-not-at_most-2 in
           subst (Fitting S laws cells locations t (length old) turned times l c.requires.there old clock) (sym w.segment-is)
           (fitting_new S laws cells locations t (length old) turned times l c.requires.there s old gs clock made.result c.loop-s.invariant.0 c.loop-s.invariant.1 reached made.ensures.since made.ensures.segmented)
-      | else-not-at-most-2 w ↦
+      | else-not-at_most-2 w ↦
           subst (Fitting S laws cells locations t (length old) turned times l c.requires.there old clock) (sym w.segment-is) (record {
             segmented = c.loop-s.invariant.3;
             since = clock_rises times t.count s t.at c.loop-s.segment.since clock c.requires.rising c.loop-s-test.true c.loop-s.invariant.1 turned.logged c.loop-s.invariant.4 c.saturating_sub-clock.ensures;

@@ -30,7 +30,7 @@ returns-in-Ok-open c =
     let r = c.deliver_graded.result in
     record {
       bytes = listing f es;
-      goal = memory_for f (length es);
+      need = memory_for f (length es);
       reports = graded loaded.answer loaded.reads laws encoded;
       delivery =
           subst (λ (n : ℕ). Delivery (listing f es) (memory_for f n) old new before after r) (length-rebased es)
@@ -46,7 +46,7 @@ returns-in-Err-open c =
     let nine : c.number.result ≡ 9 = c.number.ensures ∙ ap number_of broken.0 in
     record {
       bytes = refused_line 9;
-      goal = 0;
+      need = 0;
       reports = no_file loaded.answer broken.1;
       delivery =
           delivered_page (written c.refusal_line.result) (refused_line 9) c.args.grades.now c.args.out.now c.deliver.new.out
@@ -58,7 +58,7 @@ returns-in-Err c =
     let number = number_of c.in-Err.refusal in
     record {
       bytes = refused_line number;
-      goal = 0;
+      need = 0;
       reports = no_rule c.in-Err.ensures (number_positive c.in-Err.refusal);
       delivery =
           delivered_page (written c.refusal_line-in-Err.result) (refused_line number) c.args.grades.now c.args.out.now c.deliver-in-Err.new.out
