@@ -1,17 +1,13 @@
-// Grades the log file `watch.log` by the rule in `rule.txt`, both of the current folder: how many events, and for each its
-// number, the milliseconds since the first one, and the shown number of the rule's grade there, on Doubt. Where the rule or
-// the file is refused, by which number.
+// Prints the report of the rule in `rule.txt` and the log file `watch.log`, both of the current folder: how many events, and
+// for each its number, the milliseconds since the first one, and the shown number of the rule's grade there, on Doubt. Where
+// the rule or the file is refused, by which number.
 #![tactic(auto)]
 
-use files::FileLog;
-use logs::{Log, Rebase};
-use refusals::Refusal;
-use rules::Rule;
-use running::{WorkingTable, run};
-use scales::{Doubt, Scale};
+use reporting::{enough, report};
+use scales::Doubt;
 use std::fs::File;
 use std::io;
-use std::io::{ErrorKind, Read};
+use std::io::{ErrorKind, Read, Write};
 
 // One byte more than the longest file of a log has, and than the longest rule with a newline behind it:
 // whatever is longer is refused by its front alone.
@@ -43,43 +39,26 @@ fn line(text: &[u8]) -> &[u8] {
     }
 }
 
-fn refused(rt: &HostRuntime, refusal: Refusal) -> io::Result<()> {
-    let number = refusal.number();
-    println!(rt; "refused {number}")
-}
-
-fn list<L: Log>(rt: &HostRuntime, log: &L, grades: &[Doubt]) -> io::Result<()> {
-    let count = log.count();
-    println!(rt; "events {count}")?;
-    for (before, grade) in grades.iter().take(count).enumerate() {
-        let event = before.saturating_add(1);
-        let time = log.time(event);
-        let shown = grade.shown();
-        println!(rt; "{event} {time} {shown}")?;
-    }
-    Ok(())
-}
-
-// The listing of a log that a rule grades.
-fn grade<L: Log>(rt: &HostRuntime, rule: &Rule, log: &L) -> io::Result<()> {
-    let mut grades = vec![in rt.alloc(); Doubt::No; rule.grades_needed(log.count())]?;
-    let mut table = WorkingTable {
-        grades: grades.as_mut_slice(),
-    };
-    match run(rule, log, &mut table) {
-        Ok(_) => list(rt, log, table.grades),
-        Err(refusal) => refused(rt, refusal),
-    }
-}
-
 fn main(rt: HostRuntime) -> io::Result<()> {
     let text = front(&rt, "rule.txt", ENOUGH_RULE)?;
     let bytes = front(&rt, "watch.log", ENOUGH_LOG)?;
-    match Rule::load(line(text.as_slice())) {
-        Ok(rule) => match FileLog::open(bytes.as_slice()) {
-            Ok(file) => grade(&rt, &rule, &Rebase::over(file.log())),
-            Err(refusal) => refused(&rt, refusal),
-        },
-        Err(refusal) => refused(&rt, refusal),
+    let room = enough();
+    let mut grades = vec![in rt.alloc(); Doubt::No; room.grades]?;
+    let mut out = vec![in rt.alloc(); 0u8; room.bytes]?;
+    match report(
+        line(text.as_slice()),
+        bytes.as_slice(),
+        grades.as_mut_slice(),
+        out.as_mut_slice(),
+    ) {
+        Ok(length) => {
+            out.truncate(length);
+            rt.stdout().write_all(out.as_slice())
+        }
+        // What is lent suffices for every report, so this does not happen.
+        Err(refusal) => {
+            let number = refusal.number();
+            println!(rt; "refused {number}")
+        }
     }
 }
