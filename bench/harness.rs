@@ -6,7 +6,6 @@ use plain::{Event, Rule, Scale};
 use std::time::Instant;
 
 #[link(name = "timing", kind = "static")]
-#[link(name = "rattle_c", kind = "static")]
 unsafe extern "C" {
     fn timing_load(rule: *const u8, rule_len: usize) -> u64;
     fn timing_open(file: *const u8, file_len: usize) -> u64;
