@@ -1,6 +1,6 @@
 use logs::Event;
+use recorded::several::{Answer, Call, replay};
 use refusals::Refusal;
-use replaying::{Answer, Call, replay};
 use rules::Rule;
 use running::WorkingTable;
 use scales::Scale;

@@ -1,3 +1,0 @@
-pub mod Behind
-pub mod SingleCalls
-pub mod Replays
