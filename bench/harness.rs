@@ -10,6 +10,7 @@ unsafe extern "C" {
     fn timing_load(rule: *const u8, rule_len: usize) -> u64;
     fn timing_open(file: *const u8, file_len: usize) -> u64;
     fn timing_run(rule: *const u8, rule_len: usize, file: *const u8, file_len: usize, times: u32, out: *mut u8, out_len: usize) -> u64;
+    fn timing_evaluate(rule: *const u8, rule_len: usize, file: *const u8, file_len: usize, times: u32, out: *mut u8, out_len: usize) -> u64;
     fn timing_file_run(rule: *const u8, rule_len: usize, file: *const u8, file_len: usize, times: u32, out: *mut u8, out_len: usize) -> u64;
     fn timing_outlook(rule: *const u8, rule_len: usize, file: *const u8, file_len: usize, times: u32) -> u64;
     fn timing_report(rule: *const u8, rule_len: usize, file: *const u8, file_len: usize, out: *mut u8, out_len: usize) -> u64;
@@ -109,6 +110,12 @@ fn graded(name: &str, text: &str, count: usize) {
     assert_eq!(ours, theirs[..count], "run {name} {count}");
     assert_eq!(ours, straight, "pointwise {name} {count}");
     row("run", name, &rule, count, proved, same, Some(pointwise));
+
+    let proved = micros(1, || unsafe {
+        timing_evaluate(text.as_ptr(), text.len(), file.as_ptr(), file.len(), times, ours.as_mut_ptr(), ours.len());
+    }) / times as f64;
+    assert_eq!(ours, straight, "evaluate {name} {count}");
+    row("evaluate", name, &rule, count, proved, same, None);
 
     let proved = micros(1, || unsafe {
         timing_file_run(text.as_ptr(), text.len(), file.as_ptr(), file.len(), times, ours.as_mut_ptr(), ours.len());
