@@ -31,12 +31,13 @@ pub fn symbol(text: &[u8], sign: u8) -> Option<&[u8]>
     ensures { MatchOption result (((u : List ℕ) → Symbol sign text.now u → ⊥)) (λ rest. Symbol sign text.now rest.now) }
 {
     let (c, rest) = first(text)?;
-    if c == sign { Some(rest) } else { None }
+    (c == sign).then_some(rest)
 }
 
 // One digit more.
 fn more(value: u32, digit: u8) -> u32
-    requires { (value ≤ 1000000001) × (digit ≤ 9) }
+    requires held { value ≤ 1000000001 }
+    requires digit { digit ≤ 9 }
     ensures { result ≡ min (10 * value + digit) 1000000001 }
 {
     (value as u64 * 10 + digit as u64).min(TOO_LARGE) as u32

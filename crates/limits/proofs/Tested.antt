@@ -1,6 +1,6 @@
 -- A test of each interval of a table, entry by entry.
-use Rattle.std.proofs.Common.{◌≡◌, ℕ, zero, suc, ◌+◌, ◌<◌, Bool, true, false, ◌&&◌, List, [], ◌∷◌, ◌++◌, length, get_or, take, sym, refl, ap, ◌∙◌, arith}
-use Rattle.std.proofs.lemmas.List.{take_more}
+use Rattle.std.proofs.Common.{◌≡◌, ℕ, zero, suc, ◌+◌, ◌<◌, Bool, true, false, ◌&&◌, MatchBool, List, [], ◌∷◌, ◌++◌, length, get_or, take, sym, refl, ap, ◌∙◌, arith}
+use Rattle.std.specs.List.{AllWithin, HoldsAt}
 use Rattle.std.proofs.lemmas.Bool.{and_right, and_from}
 use Rattle.semantics.specs.Forms as meaning
 use Rattle.tables.specs.declared.node.Node.{Node}
@@ -28,14 +28,14 @@ module _ (p : meaning.Interval → Bool) where
   unfolding every_node
   every_none = refl
 
-  -- one entry more that passes
-  pub every_more : (ns : List Node) (i : ℕ) (d : Node) → i < length ns → every_node p (take i ns) ≡ true → passes p (node_interval (get_or ns i d)) ≡ true → every_node p (take (i + 1) ns) ≡ true
-  every_more ns i d h a b =
-      ap (every_node p) (take_more ns i d h) ∙ every_append (take i ns) (get_or ns i d ∷ []) ∙ and_from _ _ a (every_one (get_or ns i d) ∙ b)
-
-  -- one entry that does not
-  pub every_fails : (ns : List Node) (i : ℕ) (d : Node) → i < length ns → passes p (node_interval (get_or ns i d)) ≡ false → every_node p ns ≡ false
+  -- every entry passes, or one does not
+  pub every_told :
+      (r : Bool) (ns : List Node) →
+      MatchBool r (AllWithin (λ n. passes p (node_interval n) ≡ true) ns 0 (length ns)) ((k : ℕ) × (k < length ns) × HoldsAt (λ n. passes p (node_interval n) ≡ false) ns k) →
+      r ≡ every_node p ns
   unfolding every_node
-  every_fails [] i d h e = absurd (omega arith)
-  every_fails (n ∷ ns) zero d h e = ap (λ b. b && every_node p ns) e
-  every_fails (n ∷ ns) (suc i) d h e = and_right _ _ (every_fails ns i d (omega arith) e)
+  every_told true [] told = refl
+  every_told false [] told = absurd (let h = told.1 in omega arith)
+  every_told true (n ∷ ns) told = sym (and_from _ _ (told 0 n (omega arith) (omega arith)) (sym (every_told true ns (λ k d low high. told (suc k) d (omega arith) (omega arith)))))
+  every_told false (n ∷ ns) (zero, h, fails) = sym (ap (λ b. b && every_node p ns) (fails n))
+  every_told false (n ∷ ns) (suc k, h, fails) = sym (and_right _ _ (sym (every_told false ns (k, omega arith, λ d. fails d))))

@@ -8,7 +8,8 @@ use tables::Node;
 
 // The depth of form number `form` of a table: one more than the greatest directly inside it.
 pub fn depth_at(nodes: &[Node], form: usize) -> usize
-    requires { (Earlier nodes.now) × (form < length nodes.now) }
+    requires earlier { Earlier nodes.now }
+    requires there { form < length nodes.now }
     ensures is { result ≡ depth (form_at (forms_from nodes.now) form) }
     ensures few { result ≤ form + 1 }
 {

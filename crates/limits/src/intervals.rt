@@ -32,26 +32,12 @@ fn is_proper(interval: Interval) -> bool
 pub fn all_small(nodes: &[Node]) -> bool
     ensures { result ≡ every_node small nodes.now }
 {
-    for node in nodes {
-        if let Some(found) = interval_in(*node) {
-            if !is_small(found) {
-                return false;
-            }
-        }
-    }
-    true
+    nodes.iter().all(|node| interval_in(*node).is_none_or(is_small))
 }
 
 // Whether each interval of a table is proper.
 pub fn all_proper(nodes: &[Node]) -> bool
     ensures { result ≡ every_node proper nodes.now }
 {
-    for node in nodes {
-        if let Some(found) = interval_in(*node) {
-            if !is_proper(found) {
-                return false;
-            }
-        }
-    }
-    true
+    nodes.iter().all(|node| interval_in(*node).is_none_or(is_proper))
 }

@@ -1,18 +1,17 @@
 ghost use Rattle.std.specs.Prelude.{◌<◌, length, MatchResult};
-ghost use Rattle.bounded.specs.Lists.{listed};
 ghost use Rattle.semantics.specs.Normals.{normal};
 ghost use Rattle.tables.specs.Sources.{form_at, forms_from};
 ghost use Rattle.limits.specs.Parts.{Earlier};
 ghost use Rattle.normalizing.specs.NormalWritten.{Put, Full, Normalized, TooLarge};
 
-use crate::shape::{Shape, of_joint, of_leaf, of_step, shaped};
+use crate::shape::{Shape, of_joint, of_step, shaped};
 use bounded::Bounded;
 use refusals::Refusal;
 use tables::{Node, NormalNode};
 
 // One entry more, and its number.
 fn put(normals: &mut Bounded<NormalNode, 64>, node: NormalNode) -> Result<usize, Refusal>
-    ensures { MatchResult result (λ place. Put (listed normals.old.items normals.old.len) (listed normals.new.items normals.new.len) node place) (λ e. Full (listed normals.old.items normals.old.len) e) }
+    ensures { MatchResult result (λ place. Put normals.old normals.new node place) (λ e. Full normals.old e) }
 {
     let place = normals.len();
     match normals.push(node) {
@@ -28,18 +27,19 @@ pub fn normalize(
     positive: bool,
     normals: &mut Bounded<NormalNode, 64>,
 ) -> Result<usize, Refusal>
-    requires { (Earlier nodes.now) × (form < length nodes.now) }
-    ensures { MatchResult result (λ root. Normalized (listed normals.old.items normals.old.len) (listed normals.new.items normals.new.len) (normal positive (form_at (forms_from nodes.now) form)) root) (λ e. TooLarge (listed normals.old.items normals.old.len) (normal positive (form_at (forms_from nodes.now) form)) e) }
+    requires earlier { Earlier nodes.now }
+    requires there { form < length nodes.now }
+    ensures { MatchResult result (λ root. Normalized normals.old normals.new (normal positive (form_at (forms_from nodes.now) form)) root) (λ e. TooLarge normals.old (normal positive (form_at (forms_from nodes.now) form)) e) }
 {
     match shaped(nodes[form], positive) {
-        Shape::Leaf { leaf } => put(normals, of_leaf(leaf)),
+        Shape::Leaf { leaf } => put(normals, NormalNode::from(leaf)),
         Shape::Turned { inner } => normalize(nodes, inner, !positive, normals),
         Shape::Stepped { step, inner } => {
             let under = normalize(nodes, inner, positive, normals)?;
             put(normals, of_step(step, under))
         }
         Shape::Waiting { joint, leaf, inner } => {
-            let before = put(normals, of_leaf(leaf))?;
+            let before = put(normals, NormalNode::from(leaf))?;
             let under = normalize(nodes, inner, positive, normals)?;
             put(normals, of_joint(joint, before, under))
         }

@@ -172,14 +172,16 @@ pub fn shaped(node: Node, positive: bool) -> Shape
     }
 }
 
-pub fn of_leaf(leaf: Leaf) -> NormalNode
-    ensures { result ≡ leaf_node leaf }
-{
-    match leaf {
-        Leaf::Top => NormalNode::Top,
-        Leaf::Bottom => NormalNode::Bottom,
-        Leaf::Fact { fact } => NormalNode::Fact { fact },
-        Leaf::Opposed { fact } => NormalNode::Opposed { fact },
+impl From<Leaf> for NormalNode {
+    ghost from_gives = { λ leaf node. node ≡ leaf_node leaf };
+
+    fn from(leaf: Leaf) -> NormalNode {
+        match leaf {
+            Leaf::Top => NormalNode::Top,
+            Leaf::Bottom => NormalNode::Bottom,
+            Leaf::Fact { fact } => NormalNode::Fact { fact },
+            Leaf::Opposed { fact } => NormalNode::Opposed { fact },
+        }
     }
 }
 

@@ -1,6 +1,5 @@
 -- The table that a form is written into, entry by entry as its parts end.
 use Rattle.std.specs.Prelude.{◌≡◌, ℕ, ◌+◌, ◌-◌, ◌<◌, ◌≤◌, List, [], ◌∷◌, ◌++◌, length}
-use Rattle.bounded.specs.Lists.{listed}
 use Rattle.semantics.specs.Forms.{Form, forms}
 use Rattle.tables.specs.declared.interval.Interval.{Interval}
 use Rattle.tables.specs.declared.node.Node.{Node}
@@ -51,7 +50,7 @@ joined_node of_joining.Release I i j = Release I i j
 
 -- the entries that a source holds
 abbrev pub held : Source → List Node
-held S = listed S.nodes.items S.nodes.len
+held S = S.nodes
 
 -- S' is S with the node n counted, and kept where S has room
 pub record Added (S : Source) (n : Node) (S' : Source) : Type 0 where

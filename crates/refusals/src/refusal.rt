@@ -1,27 +1,28 @@
 ghost use Rattle.std.specs.Prelude.{◌≡◌, Some};
 ghost use Rattle.refusals.specs.Refusals.{number_of, words_of};
 
+use std::error::Error;
 use std::fmt;
 
 // Why a call was turned down. A call that has several reasons gives the one with the lowest number.
 #[derive(Clone, Copy, PartialEq, Eq, Debug)]
 pub enum Refusal {
     // of what comes in
-    RuleLength,
-    NotAForm,
-    TooManyForms,
-    TooDeep,
-    NumberTooLarge,
-    EmptyInterval,
-    NormalFormTooLarge,
-    TimeOverLimit,
-    BrokenFile,
+    RuleLength = 1,
+    NotAForm = 2,
+    TooManyForms = 3,
+    TooDeep = 4,
+    NumberTooLarge = 5,
+    EmptyInterval = 6,
+    NormalFormTooLarge = 7,
+    TimeOverLimit = 8,
+    BrokenFile = 9,
     // of how things stand
-    LogFull,
-    TimeFalls,
-    MemoryTooShort,
-    EventAbsent,
-    OutputTooShort,
+    LogFull = 10,
+    TimeFalls = 11,
+    MemoryTooShort = 12,
+    EventAbsent = 13,
+    OutputTooShort = 14,
 }
 
 impl Refusal {
@@ -29,22 +30,7 @@ impl Refusal {
     pub fn number(self) -> u8
         ensures { result ≡ number_of self }
     {
-        match self {
-            Refusal::RuleLength => 1,
-            Refusal::NotAForm => 2,
-            Refusal::TooManyForms => 3,
-            Refusal::TooDeep => 4,
-            Refusal::NumberTooLarge => 5,
-            Refusal::EmptyInterval => 6,
-            Refusal::NormalFormTooLarge => 7,
-            Refusal::TimeOverLimit => 8,
-            Refusal::BrokenFile => 9,
-            Refusal::LogFull => 10,
-            Refusal::TimeFalls => 11,
-            Refusal::MemoryTooShort => 12,
-            Refusal::EventAbsent => 13,
-            Refusal::OutputTooShort => 14,
-        }
+        self as u8
     }
 
     // The reason in plain words.
@@ -78,3 +64,5 @@ impl fmt::Display for Refusal {
         f.write_str(self.words())
     }
 }
+
+impl Error for Refusal {}

@@ -1,7 +1,6 @@
 // A report written at the front of an output, with grades that stay as they were where it does not fit.
 ghost use Rattle.std.specs.Prelude.{◌≡◌, ℕ, ◌<◌, ◌≤◌, ◌++◌, length, drop, replicate, MatchResult, slice_index_or};
 ghost use Rattle.refusals.specs.declared.refusal.Refusal.TheVariants.{MemoryTooShort, OutputTooShort};
-ghost use Rattle.bounded.specs.Lists.{listed};
 ghost use Rattle.scales.specs.declared.doubt.Doubt.TheVariants.{No};
 ghost use Rattle.scales.specs.Doubts.{doubt};
 ghost use Rattle.semantics.specs.Words.{word};
@@ -59,7 +58,7 @@ fn graded_listing<L: Log>(rule: &Rule, log: &L, grades: &mut [Doubt]) -> Result<
 // A copy of grades, so that they can be put back.
 fn copied(grades: &[Doubt]) -> Bounded<Doubt, MOST_GRADES>
     requires { length grades.now ≤ 34434 }
-    ensures { listed result.items result.len ≡ grades.now }
+    ensures { result ≡ grades.now }
 {
     let mut copy = Bounded::new(Doubt::No);
     append(&mut copy, grades);

@@ -1,6 +1,5 @@
 // The parts of a report, written one behind another into a list that has room for them.
 ghost use Rattle.std.specs.Prelude.{◌≡◌, ◌+◌, ◌≤◌, ◌++◌, length, decimal};
-ghost use Rattle.bounded.specs.Lists.{listed};
 ghost use Rattle.reporting.specs.Listing.{field, line};
 ghost use Rattle.reporting.specs.Pages.{written};
 
@@ -18,8 +17,8 @@ pub(crate) const NEWLINE: u8 = 10;
 
 // Items behind those of a list that has room for them.
 pub(crate) fn append<T: Copy, const N: usize>(list: &mut Bounded<T, N>, items: &[T])
-    requires { length (listed list.old.items list.old.len) + length items.now ≤ N }
-    ensures { listed list.new.items list.new.len ≡ listed list.old.items list.old.len ++ items.now }
+    requires { length list.old + length items.now ≤ N }
+    ensures { list.new ≡ list.old ++ items.now }
 {
     for item in items {
         let _ = list.push(*item);

@@ -13,7 +13,6 @@ use Rattle.normalizing.proofs.Making.{length-normal}
 use Rattle.normalizing.proofs.Standing.{root_written}
 use Rattle.rules.specs.declared.rule.Rule.{Rule}
 use Rattle.rules.specs.Rules.{rule_normals, rule_cells, rule_locations, form_of_rule, normal_of_rule, automaton_of_rule}
-use Rattle.rules.proofs.Coded.{same_cells, same_entries, same_nodes}
 
 -- the normal form that a table of it stands for
 pub normal_stands : (ns : List NormalNode) (f : Normal) → ns ≡ normal_written 0 f → normal_at (normals_from ns) (length ns - 1) ≡ f
@@ -25,13 +24,13 @@ module _ (R : Rule) where
   N = normal true (form_of_rule R)
 
   pub cells_are : cells_of (rule_cells R) ≡ table N
-  cells_are = same_cells _ _ R.celled
+  cells_are = R.celled
 
   pub locations_are : entries_of (rule_locations R) ≡ entries N
-  locations_are = same_entries _ _ R.located
+  locations_are = R.located
 
   pub normals_are : rule_normals R ≡ normal_written 0 N
-  normals_are = same_nodes _ _ R.normalized
+  normals_are = R.normalized
 
   pub normal_is : normal_of_rule R ≡ N
   normal_is = normal_stands (rule_normals R) N normals_are
@@ -50,4 +49,4 @@ module _ (R : Rule) where
 
   -- so a run of it fits the limits
   pub normals_few : normal_forms N ≤ 64
-  normals_few = let few = R.normals.few in omega (arith, normals_counted, length-take R.normals.len R.normals.items)
+  normals_few = let few = R.few in omega (arith, normals_counted)

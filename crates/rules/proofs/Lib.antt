@@ -1,4 +1,3 @@
-pub mod Coded
 pub mod Judged
 pub mod Facts
 pub mod Loads

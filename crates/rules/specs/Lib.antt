@@ -1,4 +1,3 @@
-pub mod Codes
 pub mod Judging
 pub mod Rules
 pub mod Loading

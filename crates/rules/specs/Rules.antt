@@ -1,6 +1,5 @@
 -- What the tables of a rule are.
 use Rattle.std.specs.Prelude.{◌-◌, List, length}
-use Rattle.bounded.specs.Lists.{listed}
 use Rattle.semantics.specs.Forms.{Form}
 use Rattle.semantics.specs.Normals.{Normal}
 use Rattle.semantics.specs.Automata.{Location}
@@ -15,16 +14,16 @@ use Rattle.rules.specs.declared.rule.Rule.{Rule}
 use Rattle.rules.specs.Judging.{form_in}
 
 abbrev pub rule_source : Rule → List node.Node
-rule_source R = listed R.source.items R.source.len
+rule_source R = R.source
 
 abbrev pub rule_normals : Rule → List normal_node.NormalNode
-rule_normals R = listed R.normals.items R.normals.len
+rule_normals R = R.normals
 
 abbrev pub rule_cells : Rule → List cell.Cell
-rule_cells R = listed R.cells.items R.cells.len
+rule_cells R = R.cells
 
 abbrev pub rule_locations : Rule → List location.Location
-rule_locations R = listed R.locations.items R.locations.len
+rule_locations R = R.locations
 
 -- the form that the rule is
 abbrev pub form_of_rule : Rule → Form

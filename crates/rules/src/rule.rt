@@ -1,11 +1,9 @@
-ghost use Rattle.std.specs.Prelude.{◌≡◌, true, length};
-ghost use Rattle.bounded.specs.Lists.{listed};
+ghost use Rattle.std.specs.Prelude.{◌≡◌, ◌≤◌, true, length};
 ghost use Rattle.semantics.specs.Forms.{forms};
 ghost use Rattle.semantics.specs.Normals.{normal};
 ghost use Rattle.semantics.specs.Cells.{table, entries};
 ghost use Rattle.tables.specs.CellTables.{cells_of, entries_of};
 ghost use Rattle.normalizing.specs.NormalWritten.{normal_written};
-ghost use Rattle.rules.specs.Codes.{cell_codes, entry_codes, node_codes};
 ghost use Rattle.rules.specs.Judging.{form_in, refusal_of};
 
 use bounded::Bounded;
@@ -23,9 +21,10 @@ pub struct Rule {
     normals: Bounded<NormalNode, 64>,
     cells: Bounded<Cell, 577>,
     locations: Bounded<Location, 65>,
-    ghost counted: { length (listed source.items source.len) ≡ forms (form_in (listed source.items source.len)) },
-    ghost lawful: { refusal_of (form_in (listed source.items source.len)) ≡ 0 },
-    ghost normalized: { node_codes (listed normals.items normals.len) ≡ node_codes (normal_written 0 (normal true (form_in (listed source.items source.len)))) },
-    ghost celled: { cell_codes (cells_of (listed cells.items cells.len)) ≡ cell_codes (table (normal true (form_in (listed source.items source.len)))) },
-    ghost located: { entry_codes (entries_of (listed locations.items locations.len)) ≡ entry_codes (entries (normal true (form_in (listed source.items source.len)))) },
+    ghost counted: { length source ≡ forms (form_in source) },
+    ghost lawful: { refusal_of (form_in source) ≡ 0 },
+    ghost normalized: { normals ≡ normal_written 0 (normal true (form_in source)) },
+    ghost few: { length normals ≤ 64 },
+    ghost celled: { cells_of cells ≡ table (normal true (form_in source)) },
+    ghost located: { entries_of locations ≡ entries (normal true (form_in source)) },
 }

@@ -4,3 +4,4 @@ pub mod Plains
 pub mod Doubts
 pub mod Levels
 pub mod Models
+pub mod DoubtWords

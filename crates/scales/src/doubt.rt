@@ -1,11 +1,13 @@
-ghost use Rattle.std.specs.Prelude.{◌≡◌};
+ghost use Rattle.std.specs.Prelude.{◌≡◌, Some};
 ghost use Rattle.scales.specs.Doubts.{doubt};
+ghost use Rattle.scales.specs.DoubtWords.{words_of};
 ghost use Rattle.scales.specs.Models.{doubt_laws};
 
 use crate::scale::Scale;
+use std::fmt;
 
 // Three grades, rising; what is unknown is its own opposite.
-#[derive(Clone, Copy, PartialEq, Eq, Debug)]
+#[derive(Clone, Copy, PartialEq, Eq, PartialOrd, Ord, Debug)]
 pub enum Doubt {
     No,
     Unknown,
@@ -26,21 +28,11 @@ impl Scale for Doubt {
     }
 
     fn join(self, other: Doubt) -> Doubt {
-        match (self, other) {
-            (Doubt::No, b) => b,
-            (Doubt::Unknown, Doubt::Yes) => Doubt::Yes,
-            (Doubt::Unknown, _) => Doubt::Unknown,
-            (Doubt::Yes, _) => Doubt::Yes,
-        }
+        self.max(other)
     }
 
     fn meet(self, other: Doubt) -> Doubt {
-        match (self, other) {
-            (Doubt::No, _) => Doubt::No,
-            (Doubt::Unknown, Doubt::No) => Doubt::No,
-            (Doubt::Unknown, _) => Doubt::Unknown,
-            (Doubt::Yes, b) => b,
-        }
+        self.min(other)
     }
 
     fn opposite(self) -> Doubt {
@@ -67,5 +59,17 @@ impl Scale for Doubt {
             Doubt::Unknown => 128,
             Doubt::Yes => 255,
         }
+    }
+}
+
+impl fmt::Display for Doubt {
+    ghost output = { λ x. Some (words_of x) };
+
+    fn fmt<W: fmt::Write>(&self, f: &mut fmt::Formatter<W>) -> fmt::Result {
+        f.write_str(match self {
+            Doubt::No => "no",
+            Doubt::Unknown => "unknown",
+            Doubt::Yes => "yes",
+        })
     }
 }

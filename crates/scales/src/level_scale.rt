@@ -19,15 +19,11 @@ impl Scale for Level {
     }
 
     fn join(self, other: Level) -> Level {
-        Level {
-            value: self.value.max(other.value),
-        }
+        self.max(other)
     }
 
     fn meet(self, other: Level) -> Level {
-        Level {
-            value: self.value.min(other.value),
-        }
+        self.min(other)
     }
 
     fn opposite(self) -> Level {

@@ -5,7 +5,7 @@ ghost use Rattle.scales.specs.Models.{plain_laws};
 use crate::scale::Scale;
 
 // Two grades: a thing holds or it does not.
-#[derive(Clone, Copy, PartialEq, Eq, Debug)]
+#[derive(Clone, Copy, PartialEq, Eq, PartialOrd, Ord, Debug)]
 pub enum Plain {
     No,
     Yes,
@@ -25,17 +25,11 @@ impl Scale for Plain {
     }
 
     fn join(self, other: Plain) -> Plain {
-        match self {
-            Plain::No => other,
-            Plain::Yes => Plain::Yes,
-        }
+        self.max(other)
     }
 
     fn meet(self, other: Plain) -> Plain {
-        match self {
-            Plain::No => Plain::No,
-            Plain::Yes => other,
-        }
+        self.min(other)
     }
 
     fn opposite(self) -> Plain {

@@ -1,12 +1,15 @@
 -- The cells, locations and roots of normal forms, written one form after the other.
-use Rattle.std.specs.Prelude.{ℕ, ◌+◌, ◌-◌, ◌<◌, Bool, true, false, List, [], ◌∷◌, ◌++◌, length, slice_index, slice_index_or}
-use Rattle.bounded.specs.Lists.{listed}
+use Rattle.std.specs.Prelude.{ℕ, ◌+◌, ◌-◌, ◌<◌, ◌≤◌, Bool, true, false, List, [], ◌∷◌, ◌++◌, length, slice_index, slice_index_or}
+use Rattle.semantics.specs.Forms as meaning
 use Rattle.semantics.specs.Cells.{Cell, cell_accept, cell_reject, cell_holds, cell_fails, cell_and, cell_or, cell_in, cell_out, cell_at_most, cell_above, five, nine, Entry}
 use Rattle.tables.specs.Intervals.{interval_of, upper_of}
 use Rattle.tables.specs.CellTables.{cells_of, entries_of}
 use Rattle.tables.specs.declared.normal_node.NormalNode.{NormalNode}
 use Rattle.tables.specs.declared.normal_node.NormalNode.TheVariants.{Top, Bottom, Fact, Opposed, Both, Either, Next, DualNext, Until, Release}
 use Rattle.translation.specs.declared.builder.Builder.{Builder}
+use Rattle.translation.specs.declared.clauses.Duality.{Duality}
+use Rattle.translation.specs.declared.clauses.Duality.TheVariants.{Plain, Dual}
+use Rattle.translation.specs.Duals.{inner_of, outer_of, window_of, deadline_of, final_of}
 
 -- what is written so far: the root of each normal form is the number of its last cell
 pub record Built : Type 0 where
@@ -16,10 +19,16 @@ pub record Built : Type 0 where
 
 abbrev pub built_of : Builder → Built
 built_of b = record {
-  cells = cells_of (listed b.cells.items b.cells.len);
-  entries = entries_of (listed b.locations.items b.locations.len);
-  roots = listed b.roots.items b.roots.len;
+  cells = cells_of b.cells;
+  entries = entries_of b.locations;
+  roots = b.roots;
 }
+
+-- there is room for k cells, a location and a root more
+pub record Room (B : Built) (k : ℕ) : Type 0 where
+  pub cells : length B.cells + k ≤ 577
+  pub entries : length B.entries < 65
+  pub roots : length B.roots < 64
 
 -- location 0 alone
 abbrev pub started : ℕ → Built
@@ -40,6 +49,16 @@ timed_added B xs r final = record {
 abbrev pub root_at : Built → ℕ → ℕ
 root_at B i = slice_index B.roots i
 
+-- a next more, or its dual
+abbrev pub next_added : Built → Duality → meaning.Interval → ℕ → Built
+next_added B d I i =
+    timed_added B (five (inner_of d) (window_of d I) (length B.entries) (length B.cells) (root_at B i)) 2 (final_of d)
+
+-- an until more, or its dual
+abbrev pub until_added : Built → Duality → meaning.Interval → ℕ → ℕ → Built
+until_added B d I i j =
+    timed_added B (nine (inner_of d) (outer_of d) (window_of d I) (deadline_of d I.upper) (length B.entries) (length B.cells) (root_at B i) (root_at B j)) 8 (final_of d)
+
 -- one normal form more
 abbrev pub write : Built → NormalNode → Built
 write B Top = plain_added B cell_accept
@@ -48,14 +67,10 @@ write B (Fact p) = plain_added B (cell_holds p)
 write B (Opposed p) = plain_added B (cell_fails p)
 write B (Both i j) = plain_added B (cell_and (root_at B i) (root_at B j))
 write B (Either i j) = plain_added B (cell_or (root_at B i) (root_at B j))
-write B (Next I i) =
-    timed_added B (five cell_and (cell_in (interval_of I)) (length B.entries) (length B.cells) (root_at B i)) 2 false
-write B (DualNext I i) =
-    timed_added B (five cell_or (cell_out (interval_of I)) (length B.entries) (length B.cells) (root_at B i)) 2 true
-write B (Until I i j) =
-    timed_added B (nine cell_and cell_or (cell_in (interval_of I)) (cell_at_most (upper_of I.upper)) (length B.entries) (length B.cells) (root_at B i) (root_at B j)) 8 false
-write B (Release I i j) =
-    timed_added B (nine cell_or cell_and (cell_out (interval_of I)) (cell_above (upper_of I.upper)) (length B.entries) (length B.cells) (root_at B i) (root_at B j)) 8 true
+write B (Next I i) = next_added B Plain (interval_of I) i
+write B (DualNext I i) = next_added B Dual (interval_of I) i
+write B (Until I i j) = until_added B Plain (interval_of I) i j
+write B (Release I i j) = until_added B Dual (interval_of I) i j
 
 -- normal forms more, in order
 unfoldable pub written_on : Built → List NormalNode → Built

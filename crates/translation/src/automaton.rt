@@ -47,7 +47,9 @@ fn total(normals: &[NormalNode]) -> u16
 
 // The automaton of the normal form that a table stands for.
 pub fn translate(normals: &[NormalNode]) -> Tables
-    requires { (EarlierNormals normals.now) × ((1 ≤ length normals.now) × (length normals.now ≤ 64)) }
+    requires earlier { EarlierNormals normals.now }
+    requires some { 1 ≤ length normals.now }
+    requires few { length normals.now ≤ 64 }
     ensures { (f : Normal) → normals.now ≡ normal_written 0 f → Translated f result }
 {
     let cells = total(normals);

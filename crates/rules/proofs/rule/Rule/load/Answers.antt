@@ -1,6 +1,5 @@
 use Rattle.std.proofs.Common.{◌≤◌, true, length, sym, ap, ◌∙◌, ap₂, arith, length-take}
 use Rattle.std.proofs.lemmas.Result.{err_from_is_err_and}
-use Rattle.bounded.specs.Lists.{listed}
 use Rattle.semantics.specs.Normals.{normal}
 use Rattle.semantics.specs.Cells.{table, entries, decoded}
 use Rattle.semantics.proofs.Theorems.{tabled}
@@ -8,7 +7,6 @@ use Rattle.tables.specs.NormalTables.{normals_from}
 use Rattle.reader.proofs.Growth.{forms_positive}
 use Rattle.normalizing.specs.NormalWritten.{normal_written}
 use Rattle.normalizing.proofs.Standing.{normals_written}
-use Rattle.rules.specs.Codes.{cell_codes, entry_codes, node_codes}
 use Rattle.rules.specs.Judging.{refusal_of}
 use Rattle.rules.specs.Loading.{unread}
 use Rattle.rules.proofs.Facts.{normal_stands}
@@ -31,56 +29,51 @@ overflow_sub-source c = let a = c.in_ok-source.ensures in omega (arith, a.count,
 pub normalize-requires : goal.normalize-requires
 normalize-requires c =
     let a = c.in_ok-source.ensures in
-    let w = earlier a (c.in_ok-judge.ensures a.f (read_holds a)) _ c.as_slice.ensures in
-    (w.0, w.1)
+    let w = earlier a (c.in_ok-judge.ensures a.f (read_holds a)) _ c.as_slice.ensures.is in
+    record { earlier = w.0; there = w.1 }
 
 pub returns-in_err-normalize : goal.returns-in_err-normalize
 returns-in_err-normalize c =
     let a = c.in_ok-source.ensures in
     let ok = c.in_ok-judge.ensures a.f (read_holds a) in
     let p = err_from_is_err_and c.from_residual-in_err-normalize.result c.from_residual-in_err-normalize.ensures.1 in
-    rw (p.1, p.2) (normal_answer a ok _ _ _ c.as_slice.ensures c.new-normals.ensures c.in_err-normalize.ensures)
+    rw (p.1, p.2) (normal_answer a ok _ _ _ c.as_slice.ensures.is c.new-normals.ensures c.in_err-normalize.ensures)
 
-pub translate-requires : goal.translate-requires
-translate-requires c =
+pub translate-cells-requires : goal.translate-cells-requires
+translate-cells-requires c =
     let a = c.in_ok-source.ensures in
     let ok = c.in_ok-judge.ensures a.f (read_holds a) in
-    let B = c.normalize.new.normals in
-    let few : B.len ≤ 64 = B.few in
-    let e = c.as_slice-2.ensures ∙ normal_table a ok _ _ _ _ c.as_slice.ensures c.new-normals.ensures c.in_ok-normalize.ensures in
-    let all : length c.as_slice-2.result.now ≤ 64 = omega (arith, ap length c.as_slice-2.ensures, length-take B.len B.items) in
-    (normal_earlier a ok _ e all, (normal_some a ok _ e all, all))
+    let e = c.as_slice-2.ensures.is ∙ normal_table a ok _ _ _ _ c.as_slice.ensures.is c.new-normals.ensures c.in_ok-normalize.ensures in
+    let all = c.as_slice-2.ensures.within in
+    record { earlier = normal_earlier a ok _ e all; some = normal_some a ok _ e all; few = all }
 
 pub invariant_of-result : goal.invariant_of-result
 invariant_of-result c =
     let a = c.in_ok-source.ensures in
     let ok = c.in_ok-judge.ensures a.f (read_holds a) in
-    let B = c.normalize.new.normals in
-    let M = listed B.items B.len in
-    let few : B.len ≤ 64 = B.few in
-    let e = normal_table a ok _ _ M _ c.as_slice.ensures c.new-normals.ensures c.in_ok-normalize.ensures in
-    let all : length M ≤ 64 = omega (arith, length-take B.len B.items) in
+    let M = c.normalize.new.normals in
+    let e = normal_table a ok _ _ M _ c.as_slice.ensures.is c.new-normals.ensures c.in_ok-normalize.ensures in
+    let all : length M ≤ 64 = omega (arith, c.as_slice-2.ensures.within, ap length c.as_slice-2.ensures.is) in
     let s = source_is a ok in
-    let w = c.translate.ensures (normal true a.f) (c.as_slice-2.ensures ∙ e) in
+    let w = c.translate-cells.ensures (normal true a.f) (c.as_slice-2.ensures.is ∙ e) in
     record {
       counted = source_counted a ok;
       lawful = ap refusal_of s ∙ no_limit a ok M e all;
-      normalized = ap node_codes (e ∙ ap (λ f. normal_written 0 (normal true f)) (sym s));
-      celled = ap cell_codes (w.cells ∙ ap (λ f. table (normal true f)) (sym s));
-      located = ap entry_codes (w.locations ∙ ap (λ f. entries (normal true f)) (sym s));
+      normalized = e ∙ ap (λ f. normal_written 0 (normal true f)) (sym s);
+      few = all;
+      celled = w.cells ∙ ap (λ f. table (normal true f)) (sym s);
+      located = w.locations ∙ ap (λ f. entries (normal true f)) (sym s);
     }
 
 pub returns : goal.returns
 returns c =
     let a = c.in_ok-source.ensures in
     let ok = c.in_ok-judge.ensures a.f (read_holds a) in
-    let B = c.normalize.new.normals in
-    let M = listed B.items B.len in
-    let few : B.len ≤ 64 = B.few in
-    let e = normal_table a ok _ _ M _ c.as_slice.ensures c.new-normals.ensures c.in_ok-normalize.ensures in
-    let all : length M ≤ 64 = omega (arith, length-take B.len B.items) in
+    let M = c.normalize.new.normals in
+    let e = normal_table a ok _ _ M _ c.as_slice.ensures.is c.new-normals.ensures c.in_ok-normalize.ensures in
+    let all : length M ≤ 64 = omega (arith, c.as_slice-2.ensures.within, ap length c.as_slice-2.ensures.is) in
     let N = normal true a.f in
-    let w = c.translate.ensures N (c.as_slice-2.ensures ∙ e) in
+    let w = c.translate-cells.ensures N (c.as_slice-2.ensures.is ∙ e) in
     record {
       f = a.f;
       reads = a.reads;
