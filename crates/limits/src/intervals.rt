@@ -32,12 +32,16 @@ fn is_proper(interval: Interval) -> bool
 pub fn all_small(nodes: &[Node]) -> bool
     ensures { result ≡ every_node small nodes.now }
 {
-    nodes.iter().all(|node| interval_in(*node).is_none_or(is_small))
+    nodes
+        .iter()
+        .all(|node| interval_in(*node).is_none_or(is_small))
 }
 
 // Whether each interval of a table is proper.
 pub fn all_proper(nodes: &[Node]) -> bool
     ensures { result ≡ every_node proper nodes.now }
 {
-    nodes.iter().all(|node| interval_in(*node).is_none_or(is_proper))
+    nodes
+        .iter()
+        .all(|node| interval_in(*node).is_none_or(is_proper))
 }

@@ -14,10 +14,8 @@ fn put(normals: &mut Bounded<NormalNode, 64>, node: NormalNode) -> Result<usize,
     ensures { MatchResult result (λ place. Put normals.old normals.new node place) (λ e. Full normals.old e) }
 {
     let place = normals.len();
-    match normals.push(node) {
-        Ok(_) => Ok(place),
-        Err(_) => Err(Refusal::NormalFormTooLarge),
-    }
+    normals.push(node).map_err(|_| Refusal::NormalFormTooLarge)?;
+    Ok(place)
 }
 
 // Writes the normal form of form number `form`, or of its opposite, behind what stands in `normals`, and gives the number of its last entry.

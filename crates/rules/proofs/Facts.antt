@@ -1,5 +1,5 @@
 -- What the invariant of a rule says of its tables.
-use Rattle.std.proofs.Common.{◌≡◌, ◌-◌, ◌≤◌, true, List, length, sym, ap, ◌∙◌, ap₂, arith, length-take}
+use Rattle.std.proofs.Common.{◌≡◌, ◌-◌, ◌≤◌, true, List, length, sym, ap, ◌∙◌, ap₂, arith}
 use Rattle.std.proofs.lemmas.List.{length-map}
 use Rattle.semantics.specs.Normals.{Normal, normal, normal_forms}
 use Rattle.semantics.specs.Automata.{automaton}

@@ -6,7 +6,8 @@ use Rattle.tables.specs.declared.cell.Cell.{Cell}
 use Rattle.tables.specs.declared.cell.Location.{Location}
 use Rattle.tables.specs.declared.normal_node.NormalNode.{NormalNode}
 use Rattle.tables.specs.declared.normal_node.NormalNode.TheVariants.{Top, Bottom, Fact, Opposed, Both, Either, Next, DualNext, Until, Release}
-use Rattle.translation.specs.Building.{Built, write, written_on, width_of, widths}
+use Rattle.translation.specs.Built.{Built}
+use Rattle.translation.specs.Building.{write, written_on, width_of, widths}
 
 pub built_same : (B C : Built) → B.cells ≡ C.cells → B.entries ≡ C.entries → B.roots ≡ C.roots → B ≡ C
 built_same B C p q r = λ i. record { cells = p i; entries = q i; roots = r i }

@@ -12,7 +12,8 @@ use Rattle.limits.proofs.Onto.{Last, last_at, last_before}
 use Rattle.normalizing.specs.NormalWritten.{interval_as, normal_written}
 use Rattle.normalizing.proofs.Making.{normal_positive, length-normal}
 use Rattle.normalizing.proofs.Standing.{interval_back}
-use Rattle.translation.specs.Building.{Built, started, plain_added, timed_added, root_at, write, written_on, width_of, widths, NormalBelow, EarlierNormals}
+use Rattle.translation.specs.Built.{Built}
+use Rattle.translation.specs.Building.{started, plain_added, timed_added, root_at, write, written_on, width_of, widths, NormalBelow, EarlierNormals}
 use Rattle.translation.proofs.Passes.{built_same, on_append, on_one, widths_append, widths_one}
 
 -- the roots of a normal form and of those inside it, whose cells are written after c others

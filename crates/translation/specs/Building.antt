@@ -1,28 +1,14 @@
 -- The cells, locations and roots of normal forms, written one form after the other.
-use Rattle.std.specs.Prelude.{ℕ, ◌+◌, ◌-◌, ◌<◌, ◌≤◌, Bool, true, false, List, [], ◌∷◌, ◌++◌, length, slice_index, slice_index_or}
+use Rattle.std.specs.Prelude.{ℕ, ◌+◌, ◌-◌, ◌<◌, ◌≤◌, Bool, false, List, [], ◌∷◌, ◌++◌, length, slice_index, slice_index_or}
 use Rattle.semantics.specs.Forms as meaning
-use Rattle.semantics.specs.Cells.{Cell, cell_accept, cell_reject, cell_holds, cell_fails, cell_and, cell_or, cell_in, cell_out, cell_at_most, cell_above, five, nine, Entry}
-use Rattle.tables.specs.Intervals.{interval_of, upper_of}
-use Rattle.tables.specs.CellTables.{cells_of, entries_of}
+use Rattle.semantics.specs.Cells.{Cell, cell_accept, cell_reject, cell_holds, cell_fails, cell_and, cell_or, five, nine}
+use Rattle.tables.specs.Intervals.{interval_of}
 use Rattle.tables.specs.declared.normal_node.NormalNode.{NormalNode}
 use Rattle.tables.specs.declared.normal_node.NormalNode.TheVariants.{Top, Bottom, Fact, Opposed, Both, Either, Next, DualNext, Until, Release}
-use Rattle.translation.specs.declared.builder.Builder.{Builder}
+use Rattle.translation.specs.Built.{Built}
 use Rattle.translation.specs.declared.clauses.Duality.{Duality}
 use Rattle.translation.specs.declared.clauses.Duality.TheVariants.{Plain, Dual}
 use Rattle.translation.specs.Duals.{inner_of, outer_of, window_of, deadline_of, final_of}
-
--- what is written so far: the root of each normal form is the number of its last cell
-pub record Built : Type 0 where
-  pub cells : List Cell
-  pub entries : List Entry
-  pub roots : List ℕ
-
-abbrev pub built_of : Builder → Built
-built_of b = record {
-  cells = cells_of b.cells;
-  entries = entries_of b.locations;
-  roots = b.roots;
-}
 
 -- there is room for k cells, a location and a root more
 pub record Room (B : Built) (k : ℕ) : Type 0 where

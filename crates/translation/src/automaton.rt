@@ -57,11 +57,5 @@ pub fn translate(normals: &[NormalNode]) -> Tables
     for node in normals {
         builder.add(*node);
     }
-    let _ = builder.cells.push(Cell::Reset { cell: cells - 1 });
-    let Builder {
-        cells,
-        locations,
-        ..
-    } = builder;
-    Tables { cells, locations }
+    builder.finish(Cell::Reset { cell: cells - 1 })
 }

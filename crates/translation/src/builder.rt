@@ -1,24 +1,36 @@
 ghost use Rattle.std.specs.Prelude.{◌≡◌, ◌+◌, ◌<◌, ◌≤◌, [], ◌∷◌, ◌++◌, length, slice_index};
-ghost use Rattle.tables.specs.CellTables.{cell_of, cells_of};
+ghost use Rattle.tables.specs.CellTables.{cell_of, cells_of, entries_of};
 ghost use Rattle.tables.specs.Intervals.{interval_of};
-ghost use Rattle.translation.specs.Building.{Built, built_of, Room, started, plain_added, timed_added, next_added, until_added, write, NormalBelow};
+ghost use Rattle.translation.specs.Building.{Room, started, plain_added, timed_added, next_added, until_added, write, NormalBelow};
 
+use crate::automaton::Tables;
 use crate::clauses::Duality;
 use bounded::Bounded;
+use std::marker::Model;
 use tables::{Cell, Interval, Location, NormalNode};
 
 // What is written so far: the cells, the locations, and the root cell of each normal form.
 #[derive(Drop)]
 pub struct Builder {
-    pub cells: Bounded<Cell, 577>,
-    pub locations: Bounded<Location, 65>,
-    pub roots: Bounded<u16, 64>,
+    cells: Bounded<Cell, 577>,
+    locations: Bounded<Location, 65>,
+    roots: Bounded<u16, 64>,
+}
+
+// Clauses see the cells and locations as the translation has them.
+impl Model for Builder {
+    ghost use Rattle.tables.specs.CellTables.{cells_of, entries_of};
+    ghost use Rattle.translation.specs.Built.{Built};
+
+    ghost Value = { Built };
+
+    ghost view = { λ b. record { cells = cells_of b.cells; entries = entries_of b.locations; roots = b.roots } };
 }
 
 impl Builder {
     // Nothing but location 0, whose root comes last.
     pub fn new(root: u16) -> Builder
-        ensures { built_of result ≡ started root }
+        ensures { result ≡ started root }
     {
         let mut locations = Bounded::new(Location {
             root,
@@ -38,7 +50,7 @@ impl Builder {
     // The root cell of a normal form that was written before.
     fn root(&self, form: usize) -> u16
         requires { form < length self.now.roots }
-        ensures { result ≡ slice_index (built_of self.now).roots form }
+        ensures { result ≡ slice_index self.now.roots form }
     {
         let roots = self.roots.as_slice();
         roots[form]
@@ -46,8 +58,8 @@ impl Builder {
 
     // The cell of a normal form that has no location.
     fn plain(&mut self, cell: Cell)
-        requires { Room (built_of self.old) 1 }
-        ensures { built_of self.new ≡ plain_added (built_of self.old) (cell_of cell) }
+        requires { Room self.old 1 }
+        ensures { self.new ≡ plain_added self.old (cell_of cell) }
     {
         let base = self.cells.len() as u16;
         let _ = self.cells.push(cell);
@@ -56,9 +68,9 @@ impl Builder {
 
     // The cells of a normal form that has one; its location's root is cell `root` of these, and the last is its own.
     fn timed(&mut self, cells: &[Cell], root: u16, is_final: bool)
-        requires room { Room (built_of self.old) (length cells.now) }
+        requires room { Room self.old (length cells.now) }
         requires there { root < length cells.now }
-        ensures { built_of self.new ≡ timed_added (built_of self.old) (cells_of cells.now) root is_final }
+        ensures { self.new ≡ timed_added self.old (cells_of cells.now) root is_final }
     {
         let base = self.cells.len() as u16;
         let _ = self.cells.extend_from_slice(cells);
@@ -71,9 +83,9 @@ impl Builder {
 
     // A next, or its dual.
     fn next(&mut self, duality: Duality, interval: Interval, inner: usize)
-        requires room { Room (built_of self.old) 5 }
-        requires there { inner < length (built_of self.old).roots }
-        ensures { built_of self.new ≡ next_added (built_of self.old) duality (interval_of interval) inner }
+        requires room { Room self.old 5 }
+        requires there { inner < length self.old.roots }
+        ensures { self.new ≡ next_added self.old duality (interval_of interval) inner }
     {
         let base = self.cells.len() as u16;
         let own = self.locations.len() as u16;
@@ -83,10 +95,10 @@ impl Builder {
 
     // An until, or its dual.
     fn until(&mut self, duality: Duality, interval: Interval, left: usize, right: usize)
-        requires room { Room (built_of self.old) 9 }
-        requires left { left < length (built_of self.old).roots }
-        requires right { right < length (built_of self.old).roots }
-        ensures { built_of self.new ≡ until_added (built_of self.old) duality (interval_of interval) left right }
+        requires room { Room self.old 9 }
+        requires left { left < length self.old.roots }
+        requires right { right < length self.old.roots }
+        ensures { self.new ≡ until_added self.old duality (interval_of interval) left right }
     {
         let base = self.cells.len() as u16;
         let own = self.locations.len() as u16;
@@ -97,9 +109,9 @@ impl Builder {
 
     // The cells and the location of one normal form more.
     pub fn add(&mut self, node: NormalNode)
-        requires room { Room (built_of self.old) 9 }
-        requires earlier { NormalBelow (length (built_of self.old).roots) node }
-        ensures { built_of self.new ≡ write (built_of self.old) node }
+        requires room { Room self.old 9 }
+        requires earlier { NormalBelow (length self.old.roots) node }
+        ensures { self.new ≡ write self.old node }
     {
         match node {
             NormalNode::Top => self.plain(Cell::Accept),
@@ -127,5 +139,20 @@ impl Builder {
                 right,
             } => self.until(Duality::Dual, interval, left, right),
         }
+    }
+
+    // The tables, with the root of location 0 as the last cell.
+    pub(crate) fn finish(mut self, root: Cell) -> Tables
+        requires { length self.cells < 577 }
+        ensures cells { cells_of result.cells ≡ self.cells ++ cell_of root ∷ [] }
+        ensures locations { entries_of result.locations ≡ self.entries }
+    {
+        let _ = self.cells.push(root);
+        let Builder {
+            cells,
+            locations,
+            ..
+        } = self;
+        Tables { cells, locations }
     }
 }

@@ -10,4 +10,4 @@ pub returns : goal.returns
 returns c =
     every_told proper _ _
     (cases_from_all _ _ _ (λ n. passes proper (node_interval n) ≡ true) (λ n. passes proper (node_interval n) ≡ false)
-     c.all.ensures.ran (YieldsList-from_slice c.args.nodes.now cc) (λ n q k. search (rules, tests)) (λ n q k. search (rules, tests)))
+    c.all.ensures.ran (YieldsList-from_slice c.args.nodes.now cc) (λ n q k. search (rules, tests)) (λ n q k. search (rules, tests)))

@@ -1,14 +1,14 @@
-use Rattle.std.proofs.Common.{◌≡◌, ◌-◌, ◌<◌, [], ◌∷◌, ◌++◌, length, get_or, take, sym, ap, ◌∙◌, subst, zero-add, arith}
-use Rattle.std.proofs.lemmas.List.{take_all, length-take-le, map_push}
+use Rattle.std.proofs.Common.{◌≡◌, ◌-◌, [], ◌∷◌, ◌++◌, length, get_or, take, sym, ap, ◌∙◌, subst, zero-add, arith}
+use Rattle.std.proofs.lemmas.List.{take_all, length-take-le}
 use Rattle.semantics.specs.Cells.{size, cell_reset}
-use Rattle.tables.specs.declared.cell.Cell.TheVariants.{Reset}
 use Rattle.normalizing.specs.NormalWritten.{normal_written}
-use Rattle.tables.specs.CellTables.{cell_of, cells_of}
 use Rattle.tables.specs.declared.normal_node.NormalNode.TheVariants.{Top}
-use Rattle.translation.specs.Building.{Built, built_of, started, write, written_on, widths, NormalBelow}
-use Rattle.translation.proofs.Passes.{on_none, on_more, on_lengths, pushed, widths_few, cells_counted}
+use Rattle.translation.specs.Built.{Built}
+use Rattle.translation.specs.Building.{started, write, written_on, widths, NormalBelow}
+use Rattle.translation.proofs.Passes.{on_none, on_more, on_lengths, widths_few}
 use Rattle.translation.proofs.Written.{widths_size, pass_cells, pass_entries}
 use Rattle.translation.proofs.automaton.translate.Goals as goal
+use Rattle.translation.proofs.automaton.translate.Goals.{After-loop-node}
 
 pub loop-node-init : goal.loop-node-init
 loop-node-init c = c.new-builder.ensures ∙ sym (on_none _)
@@ -40,19 +40,21 @@ loop-node-preserved c =
 pub overflow_sub-cells : goal.overflow_sub-cells
 overflow_sub-cells c = omega (arith, c.total-cells.ensures, widths_few c.args.normals.now, c.requires.some)
 
+-- when all nodes are written
+whole : (c : After-loop-node) → c.loop-node.builder ≡ written_on (started c.total-cells.result) c.args.normals.now
+whole c = c.loop-node.invariant ∙ ap (written_on (started c.total-cells.result)) (take_all c.loop-node.node-index c.args.normals.now c.loop-node-test.false)
+
+pub finish-requires : goal.finish-requires
+finish-requires c =
+    omega (arith, (on_lengths c.args.normals.now (started c.total-cells.result)).cells, ap (λ (C : Built). length C.cells) (whole (goal.at.finish-requires c).After-loop-node), c.requires.few)
+
 pub returns : goal.returns
 returns c f e =
-    let ns = c.args.normals.now in
     let r = c.total-cells.result in
-    let B = c.loop-node.builder in
-    let X = B.cells in
-    let all = take_all c.loop-node.node-index ns c.loop-node-test.false in
-    let whole : built_of B ≡ written_on (started r) ns = c.loop-node.invariant ∙ ap (written_on (started r)) all in
-    let room : length X < 577 = omega (arith, cells_counted X, ap (λ (C : Built). length C.cells) whole, (on_lengths ns (started r)).cells, c.requires.few) in
     let size_is : r ≡ size f = c.total-cells.ensures ∙ ap widths e ∙ widths_size f 0 in
-    let same : built_of B ≡ written_on (started r) (normal_written 0 f) = whole ∙ ap (written_on (started r)) e in
+    let same : c.loop-node.builder ≡ written_on (started r) (normal_written 0 f) =
+    whole (goal.at.returns c).After-loop-node ∙ ap (written_on (started r)) e in
     record {
-      cells = ap cells_of (pushed c.push.result X _ (Reset (r - 1)) _ 577 c.push.ensures room) ∙ map_push cell_of X (Reset (r - 1)) ∙
-          (λ t. (same t).cells ++ (cell_reset (size_is t - 1) ∷ [])) ∙ pass_cells f r;
-      locations = ap (λ (C : Built). C.entries) same ∙ ap (λ k. (written_on (started k) (normal_written 0 f)).entries) size_is ∙ pass_entries f;
+      cells = c.finish.ensures.cells ∙ (λ t. (same t).cells ++ (cell_reset (size_is t - 1) ∷ [])) ∙ pass_cells f r;
+      locations = c.finish.ensures.locations ∙ ap (λ (C : Built). C.entries) same ∙ ap (λ k. (written_on (started k) (normal_written 0 f)).entries) size_is ∙ pass_entries f;
     }

@@ -1,4 +1,4 @@
-use Rattle.std.proofs.Common.{◌≤◌, true, length, sym, ap, ◌∙◌, ap₂, arith, length-take}
+use Rattle.std.proofs.Common.{◌≤◌, true, length, sym, ap, ◌∙◌, ap₂, arith}
 use Rattle.std.proofs.lemmas.Result.{err_from_is_err_and}
 use Rattle.semantics.specs.Normals.{normal}
 use Rattle.semantics.specs.Cells.{table, entries, decoded}
