@@ -1,3 +1,4 @@
 pub mod Lengths
 pub mod Lent
 pub mod Alone
+pub mod Extending

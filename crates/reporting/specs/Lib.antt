@@ -1,4 +1,3 @@
 pub mod Listing
-pub mod Pages
 pub mod Reports
 pub mod Delivery

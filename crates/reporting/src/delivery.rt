@@ -9,11 +9,10 @@ ghost use Rattle.rules.specs.Rules.{form_of_rule};
 ghost use Rattle.running.specs.Runs.{run_refusal, Refused};
 ghost use Rattle.running.specs.RuleRuns.{RuleRan, grades_for};
 ghost use Rattle.reporting.specs.Listing.{listed_by};
-ghost use Rattle.reporting.specs.Pages.{written};
 ghost use Rattle.reporting.specs.Reports.{memory_for};
 ghost use Rattle.reporting.specs.Delivery.{Delivery};
 
-use crate::lines::{Page, append};
+use crate::lines::Page;
 use crate::listing::listing;
 use bounded::Bounded;
 use evaluation::clear_front;
@@ -28,7 +27,7 @@ pub(crate) const MOST_GRADES: usize = 34_434;
 
 // The page at the front of the output; answers its length.
 pub(crate) fn deliver(page: &Page, out: &mut [u8]) -> Result<usize, Refusal>
-    ensures { MatchResult result (λ n. (length (written page.now) ≤ length out.old) × (n ≡ length (written page.now)) × (out.new ≡ written page.now ++ drop n out.old)) (λ e. (e ≡ OutputTooShort) × (length out.old < length (written page.now)) × (out.new ≡ out.old)) }
+    ensures { MatchResult result (λ n. (length (page.now) ≤ length out.old) × (n ≡ length (page.now)) × (out.new ≡ page.now ++ drop n out.old)) (λ e. (e ≡ OutputTooShort) × (length out.old < length (page.now)) × (out.new ≡ out.old)) }
 {
     let bytes = page.as_slice();
     let length = bytes.len();
@@ -49,7 +48,7 @@ fn run_in<L: Log>(rule: &Rule, log: &L, grades: &mut [Doubt]) -> Result<usize, R
 
 // The listing of a log that a rule grades in the memory that is lent.
 fn graded_listing<L: Log>(rule: &Rule, log: &L, grades: &mut [Doubt]) -> Result<Page, Refusal>
-    ensures { MatchResult result (λ page. (written page ≡ listed_by (L.events log.now) (meaning.grade doubt (word doubt (L.events log.now)) (form_of_rule rule.now))) × (memory_for (form_of_rule rule.now) (length (L.events log.now)) ≤ length grades.old) × ((p : ℕ) → memory_for (form_of_rule rule.now) (length (L.events log.now)) ≤ p → slice_index_or grades.new p No ≡ slice_index_or grades.old p No)) (λ e. (e ≡ MemoryTooShort) × (length grades.old < memory_for (form_of_rule rule.now) (length (L.events log.now))) × (grades.new ≡ grades.old)) }
+    ensures { MatchResult result (λ page. (page ≡ listed_by (L.events log.now) (meaning.grade doubt (word doubt (L.events log.now)) (form_of_rule rule.now))) × (memory_for (form_of_rule rule.now) (length (L.events log.now)) ≤ length grades.old) × ((p : ℕ) → memory_for (form_of_rule rule.now) (length (L.events log.now)) ≤ p → slice_index_or grades.new p No ≡ slice_index_or grades.old p No)) (λ e. (e ≡ MemoryTooShort) × (length grades.old < memory_for (form_of_rule rule.now) (length (L.events log.now))) × (grades.new ≡ grades.old)) }
 {
     run_in(rule, log, grades)?;
     Ok(listing(log, grades))
@@ -61,7 +60,7 @@ fn copied(grades: &[Doubt]) -> Bounded<Doubt, MOST_GRADES>
     ensures { result ≡ grades.now }
 {
     let mut copy = Bounded::new(Doubt::No);
-    append(&mut copy, grades);
+    let _ = copy.extend_from_slice(grades);
     copy
 }
 

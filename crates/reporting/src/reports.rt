@@ -23,7 +23,7 @@ pub fn report(
 {
     match Rule::load(text) {
         Ok(rule) => match FileLog::open(file) {
-            Ok(checked) => deliver_graded(&rule, &Rebase::over(checked.log()), grades, out),
+            Ok(log) => deliver_graded(&rule, &Rebase::over(log), grades, out),
             Err(refusal) => deliver(&refusal_line(refusal.number()), out),
         },
         Err(refusal) => deliver(&refusal_line(refusal.number()), out),

@@ -39,6 +39,7 @@ impl Rule {
     pub fn cells(&self) -> &[Cell]
         ensures is { result.now ≡ rule_cells self.now }
         ensures translated { cells_of result.now ≡ table (normal true (form_of_rule self.now)) }
+        ensures few { length result.now ≤ 577 }
     {
         self.cells.as_slice()
     }
@@ -46,6 +47,7 @@ impl Rule {
     pub fn locations(&self) -> &[Location]
         ensures is { result.now ≡ rule_locations self.now }
         ensures translated { entries_of result.now ≡ entries (normal true (form_of_rule self.now)) }
+        ensures few { length result.now ≤ 65 }
     {
         self.locations.as_slice()
     }

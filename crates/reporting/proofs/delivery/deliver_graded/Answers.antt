@@ -59,6 +59,6 @@ returns-in-Err g c =
       out = told.2;
       kept =
           ap₂ (λ (front : List _) (k : ℕ). front ++ drop k c.graded_listing.new.grades)
-          (c.copy_from_slice.ensures.after ∙ c.as_slice.ensures ∙ c.copied-before.ensures ∙ ap (λ k. take k old) whole) whole
+          (c.copy_from_slice.ensures.after ∙ c.as_slice.ensures.is ∙ c.copied-before.ensures ∙ ap (λ k. take k old) whole) whole
           ∙ ap (λ xs. take goal old ++ xs) (same_behind No goal old c.graded_listing.new.grades c.graded_listing.auto.grades listed.2) ∙ take-append-drop goal old;
     }

@@ -1,11 +1,10 @@
-use Rattle.std.proofs.Common.{◌≡◌, ℕ, List, length, sym, ap, ◌∙◌, subst}
+use Rattle.std.proofs.Common.{◌≡◌, ℕ, List, length, ap, ◌∙◌, subst}
 use Rattle.refusals.specs.Refusals.{number_of}
 use Rattle.logs.specs.declared.event.Event.{Event}
 use Rattle.logs.specs.Rebasing.{rebased}
 use Rattle.semantics.specs.Forms.{Form}
 use Rattle.files.specs.Opened.{file_events}
 use Rattle.reporting.specs.Listing.{listing, refused_line}
-use Rattle.reporting.specs.Pages.{written}
 use Rattle.reporting.specs.Reports.{memory_for, no_rule, no_file, graded}
 use Rattle.reporting.specs.Delivery.{Delivery}
 use Rattle.reporting.proofs.Lent.{delivered_page}
@@ -18,11 +17,10 @@ returns-in-Ok-open c =
     let loaded = c.in-Ok.ensures in
     let f = loaded.f in
     let opened = c.in-Ok-open.ensures in
-    let es = opened.1.0 in
-    let laws = opened.1.1 in
-    let encoded = opened.1.2 in
-    let told : file_events c.over.result.below ≡ es =
-    ap file_events c.over.ensures ∙ c.log.ensures.meaning es laws (encoded ∙ sym opened.0) in
+    let es = opened.file.0 in
+    let laws = opened.file.1 in
+    let encoded = opened.file.2 in
+    let told : file_events c.over.result.below ≡ es = ap file_events c.over.ensures ∙ opened.meaning es laws encoded in
     let old = c.args.grades.now in
     let new = c.deliver_graded.new.grades in
     let before = c.args.out.now in
@@ -49,7 +47,7 @@ returns-in-Err-open c =
       need = 0;
       reports = no_file loaded.answer broken.1;
       delivery =
-          delivered_page (written c.refusal_line.result) (refused_line 9) c.args.grades.now c.args.out.now c.deliver.new.out
+          delivered_page (c.refusal_line.result) (refused_line 9) c.args.grades.now c.args.out.now c.deliver.new.out
           c.deliver.result (c.refusal_line.ensures ∙ ap refused_line nine) c.deliver.ensures;
     }
 
@@ -61,6 +59,6 @@ returns-in-Err c =
       need = 0;
       reports = no_rule c.in-Err.ensures (number_positive c.in-Err.refusal);
       delivery =
-          delivered_page (written c.refusal_line-in-Err.result) (refused_line number) c.args.grades.now c.args.out.now c.deliver-in-Err.new.out
+          delivered_page (c.refusal_line-in-Err.result) (refused_line number) c.args.grades.now c.args.out.now c.deliver-in-Err.new.out
           c.deliver-in-Err.result (c.refusal_line-in-Err.ensures ∙ ap refused_line c.number-in-Err.ensures) c.deliver-in-Err.ensures;
     }
