@@ -13,22 +13,12 @@ fn written<L: Log>(
 ) -> anyhow::Result<()> {
     match write_file(log, out) {
         Ok(length) => {
-            let mut same = length == file.len();
-            for (a, b) in out.iter().zip(file) {
-                if *a != *b {
-                    same = false;
-                }
-            }
+            let same = length == file.len() && out.starts_with(file);
             println!(rt; "{name}: {length} bytes, same {same}")?;
         }
         Err(refusal) => {
             let number = refusal.number();
-            let mut untouched = true;
-            for a in out.iter() {
-                if *a != 170 {
-                    untouched = false;
-                }
-            }
+            let untouched = out.iter().all(|byte| *byte == 170);
             println!(rt; "{name}: refused {number}, untouched {untouched}")?;
         }
     }
@@ -66,22 +56,14 @@ pub(crate) fn run(rt: &HostRuntime) -> anyhow::Result<()> {
     draft.record(250, 3, &[0, 128, 1, 1, 2, 255], 0)?;
     draft.record(400, 1, &[2, 127], 0)?;
     let file = draft.file(heap, 0)?;
-    match FileLog::open(file.as_slice()) {
-        Ok(checked) => {
-            let log = checked.log();
-            layers(rt, &log)?;
-            let mut roomy = [170u8; 100];
-            written(rt, "written back", &log, &mut roomy, file.as_slice())?;
-            let behind = roomy[99];
-            println!(rt; "last byte behind: {behind}")?;
-            let mut exact = [170u8; 72];
-            written(rt, "written to fit", &log, &mut exact, file.as_slice())?;
-            let mut short = [170u8; 71];
-            written(rt, "a byte too short", &log, &mut short, file.as_slice())?;
-        }
-        Err(_) => {
-            println!(rt; "the layers' file is refused")?;
-        }
-    }
-    Ok(())
+    let log = FileLog::open(file.as_slice())?;
+    layers(rt, &log)?;
+    let mut roomy = [170u8; 100];
+    written(rt, "written back", &log, &mut roomy, file.as_slice())?;
+    let behind = roomy[99];
+    println!(rt; "last byte behind: {behind}")?;
+    let mut exact = [170u8; 72];
+    written(rt, "written to fit", &log, &mut exact, file.as_slice())?;
+    let mut short = [170u8; 71];
+    written(rt, "a byte too short", &log, &mut short, file.as_slice())
 }

@@ -4,8 +4,8 @@ use logs::Log;
 // What opening the bytes gives.
 pub(crate) fn opened(rt: &HostRuntime, name: &str, bytes: &[u8]) -> anyhow::Result<()> {
     match FileLog::open(bytes) {
-        Ok(file) => {
-            let count = file.log().count();
+        Ok(log) => {
+            let count = log.count();
             println!(rt; "{name}: {count} events")?;
         }
         Err(refusal) => {

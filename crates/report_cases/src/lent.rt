@@ -7,35 +7,21 @@ const FILLER: u8 = b'#';
 
 // Whether the first grades are lowest, and all others as they were lent.
 fn lowered(grades: &[Doubt], first: usize) -> bool {
-    let mut as_promised = true;
-    for (place, grade) in grades.iter().enumerate() {
-        let expected = if place < first {
-            Doubt::No
-        } else {
-            Doubt::Unknown
-        };
-        as_promised = as_promised && *grade == expected;
-    }
-    as_promised
+    let mut front = grades.iter().take(first);
+    let mut behind = grades.iter().skip(first);
+    front.all(|grade| *grade == Doubt::No) && behind.all(|grade| *grade == Doubt::Unknown)
 }
 
 fn filled(out: &[u8], from: usize) -> bool {
-    let mut as_lent = true;
-    for byte in out.iter().skip(from) {
-        as_lent = as_lent && *byte == FILLER;
-    }
-    as_lent
+    out.iter().skip(from).all(|byte| *byte == FILLER)
 }
 
 // The last line of a report, all lines of which end in a newline.
 fn last_line(bytes: &[u8]) -> &[u8] {
-    let mut last = bytes;
-    for (place, byte) in bytes.iter().enumerate() {
-        if *byte == b'\n' && place + 1 < bytes.len() {
-            last = &bytes[place + 1..];
-        }
-    }
-    last
+    bytes
+        .split_inclusive(|byte| *byte == b'\n')
+        .last()
+        .unwrap_or(bytes)
 }
 
 // Prints a report that is short, and of a long one its length and last line.

@@ -6,6 +6,7 @@ use scales::Scale;
 // Two grades more than a run needs, which stay as they were.
 const MORE: usize = 2;
 
+// By what is shown: a scale need not have an equality of its own.
 fn is_lowest<S: Scale>(grade: S) -> bool {
     grade.shown() == S::lowest().shown()
 }
@@ -24,12 +25,10 @@ fn run_printed<S: Scale, L: Log>(
                 let shown = grade.shown();
                 print!(rt; " {shown}")?;
             }
-            let mut cleared = true;
             let rows = rule.location_count().saturating_mul(count);
             let behind = rule.cell_count().saturating_mul(2);
-            for grade in table.grades.iter().skip(rows).take(behind) {
-                cleared = cleared && is_lowest(*grade);
-            }
+            let mut columns = table.grades.iter().skip(rows).take(behind);
+            let cleared = columns.all(|grade| is_lowest(*grade));
             println!(rt; ", cleared {cleared}")?;
         }
         Err(refusal) => {
@@ -80,14 +79,16 @@ pub(crate) fn graded<S: Scale + Clone, L: Log>(
     for event in 0..=count {
         outlook_printed(rt, rule, log, event, &mut table)?;
     }
-    let mut kept = true;
-    for grade in table.grades.iter().skip(need) {
-        kept = kept && !is_lowest(*grade);
-    }
-    let mut lowest = true;
-    for grade in table.grades.iter().take(need) {
-        lowest = lowest && is_lowest(*grade);
-    }
+    let kept = table
+        .grades
+        .iter()
+        .skip(need)
+        .all(|grade| !is_lowest(*grade));
+    let lowest = table
+        .grades
+        .iter()
+        .take(need)
+        .all(|grade| is_lowest(*grade));
     println!(rt; "  memory lowest {lowest}, behind kept {kept}")?;
     let mut short = vec![in rt.alloc(); S::highest(); need.saturating_sub(1)]?;
     let mut table = WorkingTable {

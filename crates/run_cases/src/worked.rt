@@ -14,22 +14,20 @@ fn case<S: Scale + Clone>(
     replies: &[Reply],
 ) -> anyhow::Result<()> {
     let bytes = file(rt.alloc(), replies)?;
-    let Ok(checked) = FileLog::open(bytes.as_slice()) else {
-        println!(rt; "{name}: no file")?;
-        return Ok(());
-    };
-    match Rule::load(text) {
-        Ok(rule) => graded::<S, FileLog<'_>>(rt, name, &rule, &checked.log()),
-        Err(_) => {
-            println!(rt; "{name}: no rule")?;
-            Ok(())
-        }
-    }
+    let log = FileLog::open(bytes.as_slice())?;
+    let rule = Rule::load(text)?;
+    graded::<S, FileLog<'_>>(rt, name, &rule, &log)
 }
 
 const ANSWERED: &[u8] = b"G(a>F[0,30]b)";
 
-fn three(rt: &HostRuntime, name: &str, last: u64, a: u8, b: u8, scale: &str) -> anyhow::Result<()> {
+fn three<S: Scale + Clone>(
+    rt: &HostRuntime,
+    name: &str,
+    last: u64,
+    a: u8,
+    b: u8,
+) -> anyhow::Result<()> {
     let replies = [
         Reply { time: 0, a, b: 0 },
         Reply {
@@ -43,18 +41,14 @@ fn three(rt: &HostRuntime, name: &str, last: u64, a: u8, b: u8, scale: &str) -> 
             b,
         },
     ];
-    match scale {
-        "plain" => case::<Plain>(rt, name, ANSWERED, &replies),
-        "doubt" => case::<Doubt>(rt, name, ANSWERED, &replies),
-        _ => case::<Level>(rt, name, ANSWERED, &replies),
-    }
+    case::<S>(rt, name, ANSWERED, &replies)
 }
 
 pub(crate) fn run(rt: &HostRuntime) -> anyhow::Result<()> {
-    three(rt, "answered in time, plain", 30, 255, 255, "plain")?;
-    three(rt, "answered late, plain", 31, 255, 255, "plain")?;
-    three(rt, "answered in doubt, doubt", 30, 255, 100, "doubt")?;
-    three(rt, "answered by degrees, level", 30, 200, 100, "level")
+    three::<Plain>(rt, "answered in time, plain", 30, 255, 255)?;
+    three::<Plain>(rt, "answered late, plain", 31, 255, 255)?;
+    three::<Doubt>(rt, "answered in doubt, doubt", 30, 255, 100)?;
+    three::<Level>(rt, "answered by degrees, level", 30, 200, 100)
 }
 
 pub(crate) fn run_intervals(rt: &HostRuntime) -> anyhow::Result<()> {
@@ -142,13 +136,8 @@ pub(crate) fn run_intervals(rt: &HostRuntime) -> anyhow::Result<()> {
 }
 
 fn layered<S: Scale + Clone, L: Log>(rt: &HostRuntime, name: &str, log: &L) -> anyhow::Result<()> {
-    match Rule::load(b"(aU[0,50](bR[0,20]a))") {
-        Ok(rule) => graded::<S, L>(rt, name, &rule, log),
-        Err(_) => {
-            println!(rt; "{name}: no rule")?;
-            Ok(())
-        }
-    }
+    let rule = Rule::load(b"(aU[0,50](bR[0,20]a))")?;
+    graded::<S, L>(rt, name, &rule, log)
 }
 
 pub(crate) fn run_layers(rt: &HostRuntime) -> anyhow::Result<()> {
@@ -175,21 +164,13 @@ pub(crate) fn run_layers(rt: &HostRuntime) -> anyhow::Result<()> {
         },
     ];
     let bytes = file(rt.alloc(), &replies)?;
-    match FileLog::open(bytes.as_slice()) {
-        Ok(checked) => {
-            let log = checked.log();
-            layered::<Level, FileLog<'_>>(rt, "file, level", &log)?;
-            let rebased = Rebase::over(log);
-            layered::<Doubt, Rebase<FileLog<'_>>>(rt, "rebased, doubt", &rebased)?;
-            let kept = Session::over(&rebased, 0);
-            layered::<Level, Session>(rt, "session of a over rebased, level", &kept)?;
-            layered::<Plain, Session>(rt, "session of a over rebased, plain", &kept)
-        }
-        Err(_) => {
-            println!(rt; "no file")?;
-            Ok(())
-        }
-    }
+    let log = FileLog::open(bytes.as_slice())?;
+    layered::<Level, FileLog<'_>>(rt, "file, level", &log)?;
+    let rebased = Rebase::over(log);
+    layered::<Doubt, Rebase<FileLog<'_>>>(rt, "rebased, doubt", &rebased)?;
+    let kept = Session::over(&rebased, 0);
+    layered::<Level, Session>(rt, "session of a over rebased, level", &kept)?;
+    layered::<Plain, Session>(rt, "session of a over rebased, plain", &kept)
 }
 
 fn event(time: u64, a: u8, b: u8) -> Event {
