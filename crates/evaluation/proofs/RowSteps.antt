@@ -52,16 +52,15 @@ times_rising es n times timed j k order inside =
     omega (arith, there j (omega arith), there k inside, times_rise es timed.timely (suc j) (suc k) (omega arith) (omega arith) (omega arith))
 
 -- the clock of a start, from the times
-pub clocked : {G : Type 0} (S : Ops G) (times : List ℕ) (s i n clock : ℕ) → 1 < s → s ≤ i → i ≤ n → clock ≡ get_or times (i - 1) 0 - get_or times (s - 2) 0 →
+pub clocked : {G : Type 0} (S : Ops G) (times : List ℕ) (s i n clock : ℕ) → 1 < s → s ≤ i → i ≤ n → clock ≡ get_or times (i - 1) 0 - get_or times (s - 1 - 1) 0 →
     (es : List Event) → Timed es n times → clock ≡ elapsed (word S es) (s - 1) i
 clocked S times s i n clock some order logged is es timed =
-    let before : get_or times (s - 1 - 1) 0 ≡ get_or times (s - 2) 0 = ap (λ k. get_or times k 0) (omega arith) in
     omega (arith, timed.told i (omega arith) logged, timed.told (s - 1) (omega arith) (omega arith))
 
 -- the clock of an earlier start has not less
 pub clock_rises : (times : List ℕ) (n s i since clock : ℕ) → Rising n times → 1 < s → s ≤ i → i ≤ n → since ≤ get_or times (i - 1) 0 - get_or times (s - 1) 0 →
-    clock ≡ get_or times (i - 1) 0 - get_or times (s - 2) 0 → since ≤ clock
-clock_rises times n s i since clock rising some order logged before is = omega (arith, rising (s - 2) (s - 1) (omega arith) (omega arith))
+    clock ≡ get_or times (i - 1) 0 - get_or times (s - 1 - 1) 0 → since ≤ clock
+clock_rises times n s i since clock rising some order logged before is = omega (arith, rising (s - 1 - 1) (s - 1) (omega arith) (omega arith))
 
 -- the starts of location l from s on are done
 pub record Reached {G : Type 0} (S : Ops G) (cells : List Cell) (locations : List Location) (t : Turn) (times : List ℕ) (l s : ℕ) (old new : List G) : Type 0 where

@@ -64,26 +64,13 @@ fn graded<S: Scale>(event: &Event, grades: &[S], turn: Turn, cell: Cell) -> S
     }
 }
 
-fn put<S: Scale>(event: &Event, cells: &[Cell], grades: &mut [S], turn: Turn, k: usize)
-    requires started { 0 < turn.at }
-    requires logged { turn.at ≤ turn.count }
-    requires few { turn.count ≤ 512 }
-    requires inside { k < length cells.now }
-    requires fits { turn.base + k < length grades.old }
-    requires reach { Reach turn (length grades.old) (slice_index_or cells.now k Accept) }
-    ensures { grades.new ≡ slice_set grades.old (turn.base + k) (graded_by S.ops event.now turn grades.old (slice_index_or cells.now k Accept)) }
-{
-    let grade = graded(event, grades, turn, cells[k]);
-    grades[turn.base + k] = grade;
-}
-
 // Grades every cell, each from those before it.
 pub(crate) fn column<S: Scale>(event: &Event, cells: &[Cell], grades: &mut [S], turn: Turn)
     requires { Posed turn cells.now (length grades.old) }
     ensures graded { Graded S.ops event.now turn cells.now (length cells.now) grades.new }
     ensures framed { Framed S.ops turn.base (length cells.now) grades.old grades.new }
 {
-    for k in 0..cells.len() {
-        put(event, cells, grades, turn, k);
+    for (k, cell) in cells.iter().enumerate() {
+        grades[turn.base + k] = graded(event, grades, turn, *cell);
     }
 }

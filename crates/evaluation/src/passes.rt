@@ -9,17 +9,14 @@ use crate::starts::starts;
 use logs::{Event, Log, event_of};
 use scales::Scale;
 
-// No log has more events.
-const MOST: usize = 512;
-
-// The time of each event, asked of the log once.
+// The time of each event, asked of the log once; no log has more than 512.
 pub(crate) fn times_of<L: Log>(log: &L) -> [u64; 512]
     ensures timed { Timed (L.events log.now) (length (L.events log.now)) result }
     ensures long { length result ≡ 512 }
 {
-    let mut times = [0; MOST];
-    for k in 0..log.count() {
-        times[k] = log.time(k + 1);
+    let mut times = [0; 512];
+    for (k, time) in times[..log.count()].iter_mut().enumerate() {
+        *time = log.time(k + 1);
     }
     times
 }
@@ -59,9 +56,7 @@ pub(crate) fn backward<S: Scale, L: Log>(
     ensures done { EventsDone S.ops (L.events log.now) automaton.entry.cells.now automaton.entry.locations.now count 0 grades.old grades.new }
     ensures rest { Rest S.ops automaton.entry.cells.now automaton.entry.locations.now base grades.old grades.new }
 {
-    let mut at = count;
-    while at > 0 {
+    for at in (1..=count).rev() {
         at_event(log, automaton, times, grades, Turn { at, count, base });
-        at -= 1;
     }
 }

@@ -9,23 +9,14 @@ use crate::column::{Turn, place};
 use scales::Scale;
 use tables::Location;
 
-// The place of location l and the turn's start becomes the grade of l's root.
-fn move_root<S: Scale>(locations: &[Location], grades: &mut [S], turn: Turn, l: usize)
-    requires rooted { Rooted turn locations.now (length grades.old) }
-    requires inside { l < length locations.now }
-    ensures { grades.new ≡ slice_set grades.old (l * turn.count + (turn.at - 1)) (held_from S.ops grades.old turn.base (slice_index_or locations.now l no_location).root) }
-{
-    let grade = grades[turn.base + locations[l].root as usize];
-    grades[place(l, turn.count, turn.at)] = grade;
-}
-
 // Moves the roots of a column that is graded whole to the places of its start.
 pub(crate) fn settle<S: Scale>(locations: &[Location], grades: &mut [S], turn: Turn)
     requires { Rooted turn locations.now (length grades.old) }
     ensures { Moved S.ops turn locations.now (length locations.now) grades.old grades.new }
 {
-    for l in 0..locations.len() {
-        move_root(locations, grades, turn, l);
+    for (l, location) in locations.iter().enumerate() {
+        let grade = grades[turn.base + location.root as usize];
+        grades[place(l, turn.count, turn.at)] = grade;
     }
 }
 
@@ -35,8 +26,8 @@ pub(crate) fn fill<S: Scale>(grades: &mut [S], at: usize, k: usize, grade: S)
     ensures wrote { (a : ℕ) → a < k → held_from S.ops grades.new at a ≡ grade }
     ensures framed { Framed S.ops at k grades.old grades.new }
 {
-    for a in 0..k {
-        grades[at + a] = grade;
+    for place in &mut grades[at..at + k] {
+        *place = grade;
     }
 }
 
@@ -52,9 +43,8 @@ pub(crate) fn begin<S: Scale>(
     requires fits { length locations.now * count ≤ length grades.old }
     ensures { Begun S.ops boundary locations.now count (length locations.now) grades.old grades.new }
 {
-    for l in 0..locations.len() {
-        let grade = boundary.grade(locations[l].is_final);
-        fill(grades, l * count, count, grade);
+    for (l, location) in locations.iter().enumerate() {
+        fill(grades, l * count, count, boundary.grade(location.is_final));
     }
 }
 

@@ -53,16 +53,14 @@ fn row_starts<S: Scale>(
     let root = automaton.locations[location].root as usize;
     let deadline = row_deadline(automaton, turn, location);
     let mut segment = segment_at(automaton, grades, turn, 0, root);
-    let mut s = turn.at;
-    while s > 1 {
-        let clock = times[turn.at - 1].saturating_sub(times[s - 2]);
+    for s in (1..turn.at).rev() {
+        let clock = times[turn.at - 1].saturating_sub(times[s - 1]);
         if !at_most(deadline, clock) {
             return;
         }
         if !at_most(segment.horizon, clock) {
             segment = segment_at(automaton, grades, turn, clock, root);
         }
-        s -= 1;
         move_start(grades, place(location, turn.count, s), segment);
     }
 }

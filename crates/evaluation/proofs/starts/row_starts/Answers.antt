@@ -1,19 +1,8 @@
 use Rattle.std.proofs.Common.{◌≡◌, ◌-◌, length, get_or, sym, ap, ◌∙◌, subst, arith}
 use Rattle.tables.specs.Intervals.{upper_of}
-use Rattle.evaluation.proofs.Places.{place_below}
-use Rattle.evaluation.proofs.RowSteps.{clocked, clock_rises, Fitting, fitting_new, reached_none, reached_more, reached_all, reached_passed}
+use Rattle.evaluation.proofs.RowSteps.{clocked, clock_rises, Fitting, fitting_new, reached_more, reached_passed}
 use Rattle.evaluation.proofs.starts.row_starts.Goals as goal
 use Rattle.evaluation.proofs.starts.row_starts.Goals.{then-not-at_most-2, else-not-at_most-2}
-
-pub loop-s-init : goal.loop-s-init
-loop-s-init g c = (c.requires.turned.begun, omega arith, reached_none g.S.Scale.ops g.met.S.Scale.laws _ _ c.args.turn _ c.requires.turned c.args.times.now c.args.location c.requires.there c.args.grades.now, c.segment_at-segment.ensures.segmented, omega (arith, c.segment_at-segment.ensures.since))
-
-pub move_start-requires : goal.move_start-requires
-move_start-requires g c =
-    let laid = c.requires.turned.laid in
-    let some = c.loop-s-test.true in
-    let order = c.loop-s.invariant.1 in
-    omega (arith, place_below c.args.location c.args.turn.count (c.loop-s.s - 1) (length c.args.automaton.locations.now) c.requires.there (omega arith) (omega (arith, c.requires.turned.logged)), laid.based, laid.fits, c.place.ensures, c.loop-s.auto.grades)
 
 pub loop-s-preserved : goal.loop-s-preserved
 loop-s-preserved g c =
@@ -42,8 +31,7 @@ loop-s-preserved g c =
             since = clock_rises times t.count s t.at c.loop-s.segment.since clock c.requires.rising c.loop-s-test.true c.loop-s.invariant.1 turned.logged c.loop-s.invariant.4 c.saturating_sub-clock.ensures;
             until = sym c.at_most-in-loop-s.ensures ∙ w.if-not-at_most-2.false;
           })
-    ] in
-    let back : get_or times (s - 1 - 1) 0 ≡ get_or times (s - 2) 0 = ap (λ k. get_or times k 0) (omega arith) in (
+    ] in (
       omega arith,
       omega arith,
       reached_more S laws cells locations t (length old) turned times l c.requires.there (s - 1) s clock c.place.result c.if-not-at_most-2.segment
@@ -63,7 +51,3 @@ returns-then-not-at_most g c =
     (sym c.at_most.ensures ∙ c.if-not-at_most.true)
     (clocked S c.args.times.now s c.args.turn.at c.args.turn.count c.saturating_sub-clock.result (omega arith) c.loop-s.invariant.1 c.requires.turned.logged c.saturating_sub-clock.ensures)
     c.loop-s.invariant.2
-
-pub returns : goal.returns
-returns g c =
-    reached_all g.S.Scale.ops g.met.S.Scale.laws _ _ c.args.turn _ c.requires.turned c.args.times.now c.args.location c.requires.there c.loop-s.s c.args.grades.now c.loop-s.grades (omega arith) c.loop-s.invariant.2
