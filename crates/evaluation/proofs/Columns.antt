@@ -4,7 +4,7 @@ use Rattle.scales.specs.Scales.{Ops}
 use Rattle.logs.specs.declared.event.Event.{Event}
 use Rattle.tables.specs.declared.cell.Cell.{Cell}
 use Rattle.tables.specs.declared.cell.Cell.TheVariants.{Accept, Reject, Holds, Fails, And, Or, Inside, Outside, AtMost, Above, Reset, Jump}
-use Rattle.evaluation.specs.declared.column.Turn.{Turn}
+use Rattle.evaluation.specs.declared.turn.Turn.{Turn}
 use Rattle.evaluation.specs.Columns.{step, held_from, held, graded_by, Reach, Names, Before, Posed, Graded, Framed}
 
 pub framed_none : {G : Type 0} (S : Ops G) (at : ℕ) (gs : List G) → Framed S at 0 gs gs

@@ -54,6 +54,15 @@ module _ (cells : List Cell) (locations : List Location) (sound : Sound cells lo
   pub deadline_at : (k : ℕ) → k < length cells → (c : Cell) → get_or cells k Accept ≡ c → by_cell c ≡ deadline v (get_or (clauses cells) k reject)
   deadline_at k h c is = sym (ap (deadline v) (sound.reads k h) ∙ by_clause (get_or cells k Accept) ∙ ap by_cell is)
 
+  -- once the verdict is known, of two parts the later or the earlier
+  pub deadline_and : (k : ℕ) → k < length cells → (a b : ℕ) → get_or cells k Accept ≡ And a b → (w : Bool) → v ≡ w →
+      combined w (at a) (at b) ≡ deadline v (get_or (clauses cells) k reject)
+  deadline_and k h a b is w e = ap (λ x. combined x (at a) (at b)) (sym e) ∙ deadline_at k h (And a b) is
+
+  pub deadline_or : (k : ℕ) → k < length cells → (a b : ℕ) → get_or cells k Accept ≡ Or a b → (w : Bool) → v ≡ w →
+      combined (not w) (at a) (at b) ≡ deadline v (get_or (clauses cells) k reject)
+  deadline_or k h a b is w e = ap (λ x. combined (not x) (at a) (at b)) (sym e) ∙ deadline_at k h (Or a b) is
+
   -- what is neither a test nor made of two parts is never decided
   pub undecided : (c : Cell) → ((a b : ℕ) → c ≡ And a b → ⊥) → ((a b : ℕ) → c ≡ Or a b → ⊥) → ((I : of_interval.Interval) → c ≡ Inside I → ⊥) →
       ((I : of_interval.Interval) → c ≡ Outside I → ⊥) → ((u : Option ℕ) → c ≡ AtMost u → ⊥) → ((u : Option ℕ) → c ≡ Above u → ⊥) → none ≡ by_cell c

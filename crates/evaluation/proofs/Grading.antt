@@ -15,7 +15,7 @@ use Rattle.tables.specs.declared.cell.Cell.TheVariants.{Accept, Reject, Holds, F
 use Rattle.tables.specs.declared.cell.Location.{Location}
 use Rattle.tables.specs.CellTables.{cell_of, entry_of, entries_of}
 use Rattle.evaluation.specs.declared.boundary.Boundary.{Boundary}
-use Rattle.evaluation.specs.declared.column.Turn.{Turn}
+use Rattle.evaluation.specs.declared.turn.Turn.{Turn}
 use Rattle.evaluation.specs.Boundaries.{behind, after}
 use Rattle.evaluation.specs.Columns.{step, held_from, held, Names, Graded}
 use Rattle.evaluation.specs.Rows.{no_location}

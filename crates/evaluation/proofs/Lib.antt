@@ -11,3 +11,4 @@ pub mod Homing
 pub mod Connections
 pub mod Interpolating
 pub mod Onwards
+pub mod Turns

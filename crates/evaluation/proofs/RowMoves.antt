@@ -4,7 +4,7 @@ use Rattle.std.proofs.lemmas.Bool.{cases_eq}
 use Rattle.scales.specs.Scales.{Ops}
 use Rattle.tables.specs.declared.cell.Location.{Location}
 use Rattle.evaluation.specs.declared.boundary.Boundary.{Boundary}
-use Rattle.evaluation.specs.declared.column.Turn.{Turn}
+use Rattle.evaluation.specs.declared.turn.Turn.{Turn}
 use Rattle.evaluation.specs.Boundaries.{behind}
 use Rattle.evaluation.specs.Columns.{held_from, held, Framed}
 use Rattle.evaluation.specs.Rows.{no_location, Rooted, Moved, Begun}

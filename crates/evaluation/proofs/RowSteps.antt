@@ -14,14 +14,15 @@ use Rattle.semantics.specs.Continuations.{Timely}
 use Rattle.tables.specs.declared.cell.Cell.{Cell}
 use Rattle.tables.specs.declared.cell.Location.{Location}
 use Rattle.tables.specs.Intervals.{upper_of}
-use Rattle.evaluation.specs.declared.column.Turn.{Turn}
+use Rattle.evaluation.specs.declared.turn.Turn.{Turn}
 use Rattle.evaluation.specs.declared.segments.Segment.{Segment}
 use Rattle.evaluation.specs.Columns.{held, Framed}
 use Rattle.evaluation.specs.Rows.{no_location}
 use Rattle.evaluation.specs.Soundness.{clauses}
 use Rattle.evaluation.specs.Deadlines.{deadline}
 use Rattle.evaluation.specs.Segments.{own_value, horizon}
-use Rattle.evaluation.specs.Passes.{worth, cell_grade, fresh_value, Turned, Timed, Fresh, RowAt, Segmented, Deadline, Rising, RowDone, RowsDone}
+use Rattle.evaluation.specs.Times.{Rising}
+use Rattle.evaluation.specs.Passes.{worth, cell_grade, fresh_value, Turned, Timed, Fresh, RowAt, Segmented, Deadline, RowDone, RowsDone}
 use Rattle.evaluation.proofs.Places.{place_below, row_fits}
 use Rattle.evaluation.proofs.Grading.{worth_is}
 use Rattle.evaluation.proofs.Interpolating.{Until, owned, horizon_here, segment_same, interpolated}

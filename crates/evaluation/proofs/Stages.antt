@@ -8,7 +8,7 @@ use Rattle.logs.proofs.Events.{told, event_here}
 use Rattle.tables.specs.declared.cell.Cell.{Cell}
 use Rattle.tables.specs.declared.cell.Cell.TheVariants.{Accept}
 use Rattle.tables.specs.declared.cell.Location.{Location}
-use Rattle.evaluation.specs.declared.column.Turn.{Turn}
+use Rattle.evaluation.specs.declared.turn.Turn.{Turn}
 use Rattle.evaluation.specs.Columns.{held, Before, Posed, Graded, Framed}
 use Rattle.evaluation.specs.Rows.{no_location, Moved}
 use Rattle.evaluation.specs.Passes.{worth, Fresh, Settled, Laid, Turned, Timed, RowsDone, Rest, EventDone}

@@ -12,7 +12,7 @@ use Rattle.tables.specs.declared.cell.Cell.TheVariants.{Accept, Reject, Holds, F
 use Rattle.tables.specs.declared.cell.Location.{Location}
 use Rattle.tables.specs.Intervals.{upper_of, interval_of}
 use Rattle.tables.specs.CellTables.{cell_of}
-use Rattle.evaluation.specs.declared.column.Turn.{Turn}
+use Rattle.evaluation.specs.declared.turn.Turn.{Turn}
 use Rattle.evaluation.specs.Columns.{held_from}
 use Rattle.evaluation.specs.Deadlines.{sooner}
 use Rattle.evaluation.specs.Segments.{own_value, end_from, window_from, horizon}

@@ -8,7 +8,7 @@ use Rattle.semantics.specs.Values.{test}
 use Rattle.tables.specs.declared.cell.Cell.{Cell}
 use Rattle.tables.specs.declared.cell.Cell.TheVariants.{Accept, Reject, Holds, Fails, And, Or, Inside, Outside, AtMost, Above, Reset, Jump}
 use Rattle.tables.specs.Intervals.{upper_of, interval_of}
-use Rattle.evaluation.specs.declared.column.Turn.{Turn}
+use Rattle.evaluation.specs.declared.turn.Turn.{Turn}
 
 -- the grade of a cell at an event, from the clock, the cells with the same start, those whose start is the event,
 -- and the locations with the same start at the next event

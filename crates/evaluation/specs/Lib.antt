@@ -1,4 +1,5 @@
 pub mod Boundaries
+pub mod Times
 pub mod Columns
 pub mod Rows
 pub mod Soundness

@@ -11,7 +11,7 @@ use Rattle.semantics.specs.Continuations.{Timely}
 use Rattle.tables.specs.declared.cell.Cell.{Cell}
 use Rattle.tables.specs.declared.cell.Location.{Location}
 use Rattle.tables.specs.Intervals.{upper_of}
-use Rattle.evaluation.specs.declared.column.Turn.{Turn}
+use Rattle.evaluation.specs.declared.turn.Turn.{Turn}
 use Rattle.evaluation.specs.declared.segments.Segment.{Segment}
 use Rattle.evaluation.specs.Columns.{held_from, held, Framed}
 use Rattle.evaluation.specs.Rows.{no_location}
@@ -37,10 +37,6 @@ abbrev pub Deadline : List Cell → List Location → Turn → ℕ → Upper →
 Deadline cells locations t l u =
     (u ≡ none) ⊎
     ((t.at < t.count) × (u ≡ deadline (get_or locations l no_location).is_final (slice_index_or (clauses cells) (get_or locations l no_location).root reject)))
-
--- times that never fall
-abbrev pub Rising : ℕ → List ℕ → Type 0
-Rising n times = (j k : ℕ) → j ≤ k → k < n → slice_index times j ≤ slice_index times k
 
 -- n events and their times, which never fall
 pub record Timed (es : List Event) (n : ℕ) (times : List ℕ) : Type 0 where

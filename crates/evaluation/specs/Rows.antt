@@ -3,7 +3,7 @@ use Rattle.std.specs.Prelude.{◌≡◌, ℕ, ◌+◌, ◌*◌, ◌<◌, ◌≤�
 use Rattle.scales.specs.Scales.{Ops}
 use Rattle.tables.specs.declared.cell.Location.{Location}
 use Rattle.evaluation.specs.declared.boundary.Boundary.{Boundary}
-use Rattle.evaluation.specs.declared.column.Turn.{Turn}
+use Rattle.evaluation.specs.declared.turn.Turn.{Turn}
 use Rattle.evaluation.specs.Boundaries.{behind}
 use Rattle.evaluation.specs.Columns.{held_from, held}
 

@@ -1,22 +1,22 @@
 // The rows of memory: one for each location, with a place for each event.
-ghost use Rattle.std.specs.Prelude.{◌≡◌, ℕ, ◌+◌, ◌-◌, ◌*◌, ◌<◌, ◌≤◌, min, ◌++◌, length, drop, replicate, slice_index_or, slice_set};
-ghost use Rattle.evaluation.specs.Boundaries.{behind};
+ghost use Rattle.std.specs.Prelude.{◌≡◌, ℕ, ◌+◌, ◌*◌, ◌<◌, ◌≤◌, min, ◌++◌, length, drop, replicate};
 ghost use Rattle.evaluation.specs.Columns.{held_from, held, Framed};
-ghost use Rattle.evaluation.specs.Rows.{no_location, Rooted, Moved, Begun};
+ghost use Rattle.evaluation.specs.Rows.{Moved, Begun};
 
 use crate::boundary::Boundary;
-use crate::column::{Turn, place};
+use crate::turn::Turn;
 use scales::Scale;
 use tables::Location;
 
-// Moves the roots of a column that is graded whole to the places of its start.
-pub(crate) fn settle<S: Scale>(locations: &[Location], grades: &mut [S], turn: Turn)
-    requires { Rooted turn locations.now (length grades.old) }
-    ensures { Moved S.ops turn locations.now (length locations.now) grades.old grades.new }
-{
-    for (l, location) in locations.iter().enumerate() {
-        let grade = grades[turn.base + location.root as usize];
-        grades[place(l, turn.count, turn.at)] = grade;
+impl Turn<'_> {
+    // Moves the roots of a column that is graded whole to the places of its start.
+    pub(crate) fn settle<S: Scale>(&self, grades: &mut [S])
+        requires { self.now.base + length self.now.automaton.cells.now ≤ length grades.old }
+        ensures { Moved S.ops self.now self.now.automaton.locations.now (length self.now.automaton.locations.now) grades.old grades.new }
+    {
+        for (l, location) in self.automaton.locations.iter().enumerate() {
+            grades[self.place(l, self.at)] = grades[self.base + location.root as usize];
+        }
     }
 }
 

@@ -1,23 +1,30 @@
-use Rattle.std.proofs.Common.{◌≡◌, ◌-◌, length, get_or, sym, ap, ◌∙◌, subst, arith}
+use Rattle.std.proofs.Common.{◌-◌, length, sym, ◌∙◌, subst, arith}
 use Rattle.tables.specs.Intervals.{upper_of}
-use Rattle.evaluation.proofs.RowSteps.{clocked, clock_rises, Fitting, fitting_new, reached_more, reached_passed}
-use Rattle.evaluation.proofs.starts.row_starts.Goals as goal
-use Rattle.evaluation.proofs.starts.row_starts.Goals.{then-not-at_most-2, else-not-at_most-2}
+use Rattle.evaluation.proofs.RowSteps.{clocked, clock_rises, Fitting, fitting_new, reached_more, reached_all, reached_passed}
+use Rattle.evaluation.proofs.Turns.{sound, turned}
+use Rattle.evaluation.proofs.turn.Turn.row_starts.Goals as goal
+use Rattle.evaluation.proofs.turn.Turn.row_starts.Goals.{then-not-at_most-2, else-not-at_most-2}
+
+pub segment_at-segment-requires-clause-inside : goal.segment_at-segment-requires-clause-inside
+segment_at-segment-requires-clause-inside g c = (sound c.args.self.now.automaton).rooted c.args.location c.requires.there
+
+pub segment_at-segment-requires-then-not-at_most-2-clause-inside : goal.segment_at-segment-requires-then-not-at_most-2-clause-inside
+segment_at-segment-requires-then-not-at_most-2-clause-inside g c = (sound c.args.self.now.automaton).rooted c.args.location c.requires.there
 
 pub loop-s-preserved : goal.loop-s-preserved
 loop-s-preserved g c =
     let S = g.S.Scale.ops in
     let laws = g.met.S.Scale.laws in
-    let cells = c.args.automaton.cells.now in
-    let locations = c.args.automaton.locations.now in
-    let t = c.args.turn in
-    let times = c.args.times.now in
+    let cells = c.args.self.now.automaton.cells.now in
+    let locations = c.args.self.now.automaton.locations.now in
+    let t = c.args.self.now in
+    let times = c.args.self.now.times.now in
     let l = c.args.location in
     let s = c.loop-s.s in
     let old = c.args.grades.now in
     let gs = c.loop-s.grades in
     let clock = c.saturating_sub-clock.result in
-    let turned = c.requires.turned in
+    let turned = turned t (length old) c.requires.fits in
     let reached = c.loop-s.invariant.2 in
     let fitting : Fitting S laws cells locations t (length old) turned times l c.requires.there old clock c.if-not-at_most-2.segment =
     elim c.if-not-at_most-2.branch [
@@ -28,7 +35,7 @@ loop-s-preserved g c =
       | else-not-at_most-2 w ↦
           subst (Fitting S laws cells locations t (length old) turned times l c.requires.there old clock) (sym w.segment-is) (record {
             segmented = c.loop-s.invariant.3;
-            since = clock_rises times t.count s t.at c.loop-s.segment.since clock c.requires.rising c.loop-s-test.true c.loop-s.invariant.1 turned.logged c.loop-s.invariant.4 c.saturating_sub-clock.ensures;
+            since = clock_rises times t.count s t.at c.loop-s.segment.since clock t.rising c.loop-s-test.true c.loop-s.invariant.1 turned.logged c.loop-s.invariant.4 c.saturating_sub-clock.ensures;
             until = sym c.at_most-in-loop-s.ensures ∙ w.if-not-at_most-2.false;
           })
     ] in (
@@ -46,8 +53,13 @@ pub returns-then-not-at_most : goal.returns-then-not-at_most
 returns-then-not-at_most g c =
     let S = g.S.Scale.ops in
     let s = c.loop-s.s in
-    reached_passed S g.met.S.Scale.laws _ _ c.args.turn _ c.requires.turned c.args.times.now c.args.location c.requires.there s c.saturating_sub-clock.result
+    reached_passed S g.met.S.Scale.laws _ _ c.args.self.now _ (turned c.args.self.now _ c.requires.fits) c.args.self.now.times.now c.args.location c.requires.there s c.saturating_sub-clock.result
     (upper_of c.row_deadline-deadline.result) c.args.grades.now c.loop-s.grades (omega arith) c.loop-s.invariant.1 c.row_deadline-deadline.ensures
     (sym c.at_most.ensures ∙ c.if-not-at_most.true)
-    (clocked S c.args.times.now s c.args.turn.at c.args.turn.count c.saturating_sub-clock.result (omega arith) c.loop-s.invariant.1 c.requires.turned.logged c.saturating_sub-clock.ensures)
+    (clocked S c.args.self.now.times.now s c.args.self.now.at c.args.self.now.count c.saturating_sub-clock.result (omega arith) c.loop-s.invariant.1 c.args.self.now.logged c.saturating_sub-clock.ensures)
     c.loop-s.invariant.2
+
+pub returns : goal.returns
+returns g c =
+    reached_all g.S.Scale.ops g.met.S.Scale.laws _ _ c.args.self.now _ (turned c.args.self.now _ c.requires.fits) c.args.self.now.times.now c.args.location c.requires.there c.loop-s.s
+    c.args.grades.now c.loop-s.grades (omega arith) c.loop-s.invariant.2

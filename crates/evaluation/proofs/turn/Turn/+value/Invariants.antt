@@ -1,4 +1,4 @@
-use Rattle.evaluation.proofs.segments.+value.Given as goal
+use Rattle.evaluation.proofs.turn.Turn.+value.Given as goal
 
 abbrev pub decreases-value : goal.decreases-value
 decreases-value g l = l.k
