@@ -18,23 +18,19 @@ deadline_of-b-requires-in-Or t c = let before = names c.args.self.now c.args.k c
 
 pub returns-then-verdict : goal.returns-then-verdict
 returns-then-verdict t c =
-    c.later.ensures ∙ ap₂ later c.deadline_of-a.ensures c.deadline_of-b.ensures
-    ∙ deadline_and _ _ (sound c.args.self.now) c.args.verdict c.args.k c.requires _ _ c.in-And.is _ c.if-verdict.true
+    let known = deadline_and _ _ (sound c.args.self.now) c.args.verdict c.args.k c.requires _ _ c.in-And.is _ c.if-verdict.true in (cc)
 
 pub returns-else-verdict : goal.returns-else-verdict
 returns-else-verdict t c =
-    c.sooner.ensures ∙ ap₂ sooner c.deadline_of-a.ensures c.deadline_of-b.ensures
-    ∙ deadline_and _ _ (sound c.args.self.now) c.args.verdict c.args.k c.requires _ _ c.in-And.is _ c.if-verdict.false
+    let known = deadline_and _ _ (sound c.args.self.now) c.args.verdict c.args.k c.requires _ _ c.in-And.is _ c.if-verdict.false in (cc)
 
 pub returns-then-verdict-2 : goal.returns-then-verdict-2
 returns-then-verdict-2 t c =
-    c.sooner-then-verdict-2.ensures ∙ ap₂ sooner c.deadline_of-a-in-Or.ensures c.deadline_of-b-in-Or.ensures
-    ∙ deadline_or _ _ (sound c.args.self.now) c.args.verdict c.args.k c.requires _ _ c.in-Or.is _ c.if-verdict-2.true
+    let known = deadline_or _ _ (sound c.args.self.now) c.args.verdict c.args.k c.requires _ _ c.in-Or.is _ c.if-verdict-2.true in (cc)
 
 pub returns-else-verdict-2 : goal.returns-else-verdict-2
 returns-else-verdict-2 t c =
-    c.later-else-verdict-2.ensures ∙ ap₂ later c.deadline_of-a-in-Or.ensures c.deadline_of-b-in-Or.ensures
-    ∙ deadline_or _ _ (sound c.args.self.now) c.args.verdict c.args.k c.requires _ _ c.in-Or.is _ c.if-verdict-2.false
+    let known = deadline_or _ _ (sound c.args.self.now) c.args.verdict c.args.k c.requires _ _ c.in-Or.is _ c.if-verdict-2.false in (cc)
 
 pub returns-in-Inside : goal.returns-in-Inside
 returns-in-Inside t c = c.end_unless.ensures ∙ deadline_at _ _ (sound c.args.self.now) c.args.verdict c.args.k c.requires _ c.in-Inside.is
