@@ -7,9 +7,6 @@ use Rattle.tables.specs.declared.cell.Cell.TheVariants.{Accept, Reject, Holds, F
 use Rattle.evaluation.specs.declared.turn.Turn.{Turn}
 use Rattle.evaluation.specs.Columns.{step, held_from, held, graded_by, Reach, Names, Before, Posed, Graded, Framed}
 
-pub framed_none : {G : Type 0} (S : Ops G) (at : ℕ) (gs : List G) → Framed S at 0 gs gs
-framed_none S at gs = record { below = λ p h. refl; above = λ p h. refl }
-
 pub framed_more : {G : Type 0} (S : Ops G) (at k : ℕ) (old gs new : List G) (x : G) → new ≡ set gs (at + k) x →
     Framed S at k old gs → Framed S at (k + 1) old new
 framed_more S at k old gs new x e f =
@@ -19,13 +16,6 @@ framed_more S at k old gs new x e f =
       below = λ p h. let ne : p ≢ at + k = omega arith in kept p ne ∙ f.below p h;
       above = λ p h. let ne : p ≢ at + k = omega arith in kept p ne ∙ f.above p (omega arith);
     }
-
-pub filled_more : {G : Type 0} (S : Ops G) (at k : ℕ) (gs : List G) (x : G) → at + k < length gs →
-    ((a : ℕ) → a < k → held_from S gs at a ≡ x) → (a : ℕ) → a < k + 1 → held_from S (set gs (at + k) x) at a ≡ x
-filled_more S at k gs x inside filled =
-    below_more (λ a. held_from S (set gs (at + k) x) at a ≡ x) k
-    (λ a h. let ne : at + a ≢ at + k = omega arith in get_or-set_other gs (at + k) (at + a) x S.low ne ∙ filled a h)
-    (get_or-set_same gs (at + k) x S.low inside)
 
 -- a cell has one grade, whatever stands where it does not look
 module _ {G : Type 0} (S : Ops G) (e : Event) (clock : ℕ) (own own' fresh fresh' next next' : ℕ → G) (Q : ℕ → Type 0) (k : ℕ)

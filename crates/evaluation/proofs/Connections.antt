@@ -1,8 +1,6 @@
 -- The tables of a rule can be run, and stand for its automaton.
-use Rattle.std.proofs.Common.{◌≡◌, ℕ, suc, ◌+◌, ◌*◌, ◌<◌, ◌≤◌, false, List, [], ◌∷◌, length, get_or, Some, sym, refl, ap, ◌∙◌, subst, ap₂, arith}
+use Rattle.std.proofs.Common.{◌≡◌, ℕ, suc, ◌+◌, ◌*◌, ◌<◌, ◌≤◌, false, List, [], ◌∷◌, length, get_or, sym, refl, ap, ◌∙◌, subst, ap₂, arith}
 use Rattle.std.proofs.lemmas.List.{get_or-map, length-map}
-use Rattle.std.proofs.lemmas.Bool.Decides.{nat_tests}
-use Rattle.refusals.specs.declared.refusal.Refusal.TheVariants.{MemoryTooShort}
 use Rattle.scales.specs.Scales.{Ops}
 use Rattle.logs.specs.declared.event.Event.{Event}
 use Rattle.semantics.specs.Words.{word}
@@ -27,7 +25,7 @@ use Rattle.evaluation.specs.Rows.{no_location}
 use Rattle.evaluation.specs.Soundness.{Onward, Sound, Homes, clauses, automaton_of}
 use Rattle.evaluation.specs.Passes.{worth}
 use Rattle.evaluation.specs.Evaluations.{needed, value_over, Evaluated}
-use Rattle.evaluation.specs.RuleEvaluations.{normal_form, grades_for, memory_refusal, RuleEvaluated}
+use Rattle.evaluation.specs.RuleEvaluations.{normal_form, grades_for, RuleEvaluated}
 use Rattle.evaluation.proofs.Grading.{location_at}
 use Rattle.evaluation.proofs.Homing.{automaton_home}
 use Rattle.evaluation.proofs.Onwards.{table_onward}
@@ -126,6 +124,3 @@ module _ (R : Rule) (es : List Event) (cells : List Cell) (locations : List Loca
         columns = λ a h. subst (λ k. held_from S new (k * length es) a ≡ S.low) (sym ls) (made.columns a (omega arith));
         rest = λ p h. made.rest p (omega (arith, need_is));
       }
-
-pub refusal_short : (need m : ℕ) → m < need → memory_refusal need m ≡ Some MemoryTooShort
-refusal_short need m short = grind (arith, nat_tests)

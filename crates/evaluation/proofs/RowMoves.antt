@@ -1,19 +1,13 @@
 -- The rows of memory as they are written.
-use Rattle.std.proofs.Common.{◌≡◌, ℕ, ◌+◌, ◌-◌, ◌*◌, ◌<◌, ◌≢◌, List, length, get_or, set, sym, refl, ◌∙◌, subst, ⊎_elim, add-mul, one-mul, arith, get_or-set_other, get_or-set_same, below_more}
-use Rattle.std.proofs.lemmas.Bool.{cases_eq}
+use Rattle.std.proofs.Common.{◌≡◌, ℕ, ◌+◌, ◌-◌, ◌*◌, ◌<◌, ◌≢◌, List, length, get_or, set, sym, ◌∙◌, subst, arith, get_or-set_other, get_or-set_same, below_more}
 use Rattle.scales.specs.Scales.{Ops}
 use Rattle.tables.specs.declared.cell.Location.{Location}
-use Rattle.evaluation.specs.declared.boundary.Boundary.{Boundary}
 use Rattle.evaluation.specs.declared.turn.Turn.{Turn}
-use Rattle.evaluation.specs.Boundaries.{behind}
-use Rattle.evaluation.specs.Columns.{held_from, held, Framed}
-use Rattle.evaluation.specs.Rows.{no_location, Rooted, Moved, Begun}
+use Rattle.evaluation.specs.Columns.{held_from, held}
+use Rattle.evaluation.specs.Rows.{no_location, Rooted, Moved}
 use Rattle.evaluation.proofs.Places.{place_below, same_event, same_row}
 
 module _ {G : Type 0} (S : Ops G) where
-  pub moved_none : (t : Turn) (locations : List Location) (gs : List G) → Moved S t locations 0 gs gs
-  moved_none t locations gs = record { wrote = λ l h. absurd (omega arith); others = λ l r h p q ne. refl; beyond = λ p h. refl }
-
   module _ (t : Turn) (locations : List Location) (j : ℕ) (old gs : List G) (rooted : Rooted t locations (length gs)) (inside : j < length locations)
       (moved : Moved S t locations j old gs) where
     abbrev root : ℕ
@@ -46,24 +40,3 @@ module _ {G : Type 0} (S : Ops G) where
               get_or-set_other gs at (l * n + (r - 1)) grade S.low ne ∙ moved.others l r h p q apart;
           beyond = λ p h. let ne : p ≢ at = omega arith in get_or-set_other gs at p grade S.low ne ∙ moved.beyond p h;
         })
-
-  pub begun_none : (b : Boundary) (locations : List Location) (n : ℕ) (gs : List G) → Begun S b locations n 0 gs gs
-  begun_none b locations n gs = record { rows = λ l r h p q. absurd (omega arith); above = λ p h. refl }
-
-  pub begun_more : (b : Boundary) (locations : List Location) (n j : ℕ) (old gs new : List G) (x : G) → x ≡ behind S b (get_or locations j no_location).is_final →
-      Begun S b locations n j old gs → ((a : ℕ) → a < n → held_from S new (j * n) a ≡ x) → Framed S (j * n) n gs new →
-      Begun S b locations n (j + 1) old new
-  begun_more b locations n j old gs new x is begun row framed =
-      record {
-        rows =
-            λ l r h p q.
-            ⊎_elim
-            (λ e. subst (λ y. held S n new y r ≡ behind S b (get_or locations y no_location).is_final) (sym e) (row (r - 1) (omega arith) ∙ is))
-            (λ ne. let less : l < j = omega arith in
-            framed.below (l * n + (r - 1)) (place_below l n r j less p q) ∙ begun.rows l r less p q)
-            (cases_eq l j);
-        above =
-            λ p h.
-            let e : (j + 1) * n ≡ j * n + n = simp (add-mul, one-mul) in
-            framed.above p (omega arith) ∙ begun.above p (omega arith);
-      }

@@ -1,5 +1,5 @@
 -- The row of a location, from one start to the one before.
-use Rattle.std.proofs.Common.{◌≡◌, ℕ, suc, ◌+◌, ◌-◌, ◌*◌, ◌<◌, ◌≤◌, ◌≢◌, List, length, get_or, set, sym, refl, ap, ◌∙◌, subst, ap₂, inl, inr, ⊎_elim, true≢false, add-mul, one-mul, arith, get_or-set_other, get_or-set_same}
+use Rattle.std.proofs.Common.{◌≡◌, ℕ, suc, ◌+◌, ◌-◌, ◌*◌, ◌<◌, ◌≤◌, ◌≢◌, List, length, get_or, set, sym, ap, ◌∙◌, subst, ap₂, inl, inr, ⊎_elim, true≢false, add-mul, one-mul, arith, get_or-set_other, get_or-set_same}
 use Rattle.std.proofs.lemmas.Bool.{cases_eq, cases_lt}
 use Rattle.std.proofs.lemmas.Nat.{mul-le}
 use Rattle.scales.specs.Scales.{Ops, Laws}
@@ -75,9 +75,6 @@ module _ {G : Type 0} (S : Ops G) (laws : Laws S) (cells : List Cell) (locations
     (times : List ℕ) (l : ℕ) (there : l < length locations) where
   abbrev root : ℕ
   root = (get_or locations l no_location).root
-
-  pub reached_none : (gs : List G) → Reached S cells locations t times l t.at gs gs
-  reached_none gs = record { done = λ es after timed fresh row r h q. absurd (omega arith); framed = record { below = λ p h. refl; above = λ p h. refl } }
 
   -- the column stands behind the rows
   fresh_kept : (s : ℕ) (old new : List G) → 0 < s → s ≤ t.at → Framed S (l * t.count + (s - 1)) (t.at - s) old new →
@@ -211,10 +208,6 @@ module _ {G : Type 0} (S : Ops G) (laws : Laws S) (cells : List Cell) (locations
 -- from one location to the next
 
 module _ {G : Type 0} (S : Ops G) (cells : List Cell) (locations : List Location) (t : Turn) (m : ℕ) (turned : Turned cells locations t m) (times : List ℕ) where
-  pub rows_none : (gs : List G) → RowsDone S cells locations t times 1 gs gs
-  rows_none gs =
-      record { done = λ es after timed fresh rows l h q. absurd (omega arith); kept = λ l r h p q z. refl; behind = λ p h. refl }
-
   pub rows_more : (j : ℕ) (old gs new : List G) → j < length locations → RowsDone S cells locations t times j old gs → RowDone S cells locations t times j gs new →
       RowsDone S cells locations t times (j + 1) old new
   rows_more j old gs new inside before row =

@@ -11,7 +11,7 @@ use Rattle.tables.specs.declared.cell.Location.{Location}
 use Rattle.evaluation.specs.declared.turn.Turn.{Turn}
 use Rattle.evaluation.specs.Columns.{held, Before, Posed, Graded, Framed}
 use Rattle.evaluation.specs.Rows.{no_location, Moved}
-use Rattle.evaluation.specs.Passes.{worth, Fresh, Settled, Laid, Turned, Timed, RowsDone, Rest, EventDone}
+use Rattle.evaluation.specs.Passes.{worth, Fresh, Settled, Laid, Turned, Timed, RowsDone, EventDone}
 use Rattle.evaluation.proofs.Places.{place_below}
 use Rattle.evaluation.proofs.Grading.{names_of, column_is, worth_is}
 
@@ -21,10 +21,6 @@ event_told es lawful n i counted begun logged e tells =
     let first : 1 ≤ i = omega arith in
     let last : i ≤ length es = omega arith in
     told es lawful i first last e tells ∙ sym (event_here es i first)
-
--- a turn in as much memory
-pub turned_on : (cells : List Cell) (locations : List Location) (t : Turn) (m n : ℕ) → n ≡ m → Turned cells locations t m → Turned cells locations t n
-turned_on cells locations t m n same = subst (Turned cells locations t) (sym same)
 
 module _ (cells : List Cell) (locations : List Location) (t : Turn) (m : ℕ) (turned : Turned cells locations t m) where
   abbrev laid : Laid cells locations t.count t.base m
@@ -87,6 +83,3 @@ module _ (cells : List Cell) (locations : List Location) (t : Turn) (m : ℕ) (t
 
     pub event_done : EventDone S es cells locations t.count t.at old new
     event_done over settled = next_settled over settled
-
-    pub event_rest : Rest S cells locations t.base old new
-    event_rest p h = moved.beyond p (omega (arith, laid.based)) ∙ rows.behind p (omega (arith, laid.based)) ∙ framed.above p h

@@ -1,10 +1,9 @@
 -- What an evaluation says of the rule.
-use Rattle.std.proofs.Common.{◌≡◌, ℕ, suc, ◌+◌, ◌-◌, ◌*◌, ◌<◌, ◌≤◌, min, true, ◌⊎◌, List, ◌++◌, length, get_or, drop, replicate, Some, None, Ok, Err, Result, sym, ap, ◌∙◌, subst, inl, inr, arith, MatchResult}
-use Rattle.std.proofs.lemmas.List.{ext_get_or, get_or_past, get_or_read, length-drop, get_or-drop}
+use Rattle.std.proofs.Common.{◌≡◌, ℕ, suc, ◌+◌, ◌<◌, ◌≤◌, min, true, ◌⊎◌, List, ◌++◌, length, get_or, drop, replicate, Some, sym, ap, ◌∙◌, subst, inl, inr, arith}
+use Rattle.std.proofs.lemmas.List.{ext_get_or, get_or_past, length-drop, get_or-drop}
 use Rattle.std.proofs.lemmas.Nat.{mul-le}
 use Rattle.std.proofs.lemmas.Bool.{cases_lt}
 use Rattle.std.proofs.lemmas.Bool.Decides.{nat_tests}
-use Rattle.refusals.specs.declared.refusal.Refusal.{Refusal}
 use Rattle.refusals.specs.declared.refusal.Refusal.TheVariants.{EventAbsent}
 use Rattle.scales.specs.Scales.{Ops, Laws, AtMost}
 use Rattle.logs.specs.declared.event.Event.{Event}
@@ -17,22 +16,11 @@ use Rattle.semantics.proofs.Theorems.{tabled, agreement, agreement_within, betwe
 use Rattle.rules.specs.declared.rule.Rule.{Rule}
 use Rattle.rules.specs.Rules.{form_of_rule}
 use Rattle.rules.proofs.Facts.{normals_few}
-use Rattle.evaluation.specs.declared.boundary.Boundary.{Boundary}
 use Rattle.evaluation.specs.declared.boundary.Boundary.TheVariants.{Run, Lowest, Highest}
 use Rattle.evaluation.specs.Columns.{held}
-use Rattle.evaluation.specs.RuleEvaluations.{normal_form, grades_for, memory_refusal, Refused, RuleEvaluated}
+use Rattle.evaluation.specs.RuleEvaluations.{normal_form, grades_for, RuleEvaluated}
 use Rattle.running.specs.Runs.{outlook_refusal}
 use Rattle.running.specs.RuleRuns.{RuleRan, RuleSeen}
-
--- with memory enough nothing is turned down
-pub answered : {G : Type 0} (S : Ops G) (R : Rule) (es : List Event) (b : Boundary) (old new : List G) (r : Result ℕ Refusal) → grades_for R es ≤ length old →
-    MatchResult r (λ n. RuleEvaluated S R es b n old new) (λ e. Refused (memory_refusal (grades_for R es) (length old)) e old new) → RuleEvaluated S R es b (length es) old new
-answered S R es b old new (Ok n) fits made = subst (λ k. RuleEvaluated S R es b k old new) made.counted made
-answered S R es b old new (Err e) fits refused =
-    let accepted : memory_refusal (grades_for R es) (length old) ≡ None = grind (arith, nat_tests) in
-    let none = refused.first in
-    let z : ◌≡◌ {A = ℕ} 0 1 = cc in
-    absurd (omega arith)
 
 -- no rule over any log needs more than 65 rows of 512 events and two columns of 577 cells
 pub grades_few : (R : Rule) (es : List Event) → length es ≤ 512 → grades_for R es ≤ 34434
@@ -76,16 +64,6 @@ module _ {G : Type 0} (S : Ops G) (laws : Laws S) (R : Rule) (es : List Event) w
         columns = made.columns;
         rest = made.rest;
       }
-
-  -- location 0's row is in memory
-  pub row_in : (event m : ℕ) → 0 < event → event ≤ length es → grades_for R es ≤ m → event - 1 < m
-  row_in event m begun logged fits = omega (arith, mul-le 1 (length es) (length (entries (normal_form R))) (length es) initial (omega arith))
-
-  -- the grade read at location 0's place of an event
-  pub first_row : (new : List G) (event : ℕ) (x : G) → event - 1 < length new → x ≡ get_or new (event - 1) x → x ≡ held S (length es) new 0 event
-  first_row new event x inside read =
-      let place : event - 1 ≡ 0 * length es + (event - 1) = omega arith in
-      get_or_read new (event - 1) x inside read S.low ∙ ap (λ p. get_or new p S.low) place
 
   module _ (event : ℕ) (begun : 0 < event) (logged : event ≤ length es) (old mid back new : List G) (low high : G) (need n : ℕ)
       (floored : RuleEvaluated S R es Lowest n old mid) (raised : RuleEvaluated S R es Highest n mid back)

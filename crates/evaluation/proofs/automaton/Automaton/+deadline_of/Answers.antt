@@ -1,5 +1,4 @@
-use Rattle.std.proofs.Common.{refl, ◌∙◌, ap₂, arith}
-use Rattle.evaluation.specs.Deadlines.{later, sooner}
+use Rattle.std.proofs.Common.{refl, ◌∙◌, arith}
 use Rattle.evaluation.proofs.Deciding.{deadline_at, deadline_and, deadline_or, undecided}
 use Rattle.evaluation.proofs.Turns.{sound, names}
 use Rattle.evaluation.proofs.automaton.Automaton.+deadline_of.Goals as goal

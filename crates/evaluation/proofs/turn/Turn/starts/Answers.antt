@@ -1,11 +1,8 @@
 use Rattle.std.proofs.Common.{◌≡◌, length, subst, arith}
 use Rattle.evaluation.specs.Passes.{RowsDone}
-use Rattle.evaluation.proofs.RowSteps.{rows_none, rows_more}
+use Rattle.evaluation.proofs.RowSteps.{rows_more}
 use Rattle.evaluation.proofs.Turns.{sound, turned}
 use Rattle.evaluation.proofs.turn.Turn.starts.Goals as goal
-
-pub loop-l-init : goal.loop-l-init
-loop-l-init g c = rows_none g.S.Scale.ops _ _ c.args.self.now _ (turned c.args.self.now _ c.requires) c.args.self.now.times.now c.args.grades.now
 
 pub loop-l-preserved : goal.loop-l-preserved
 loop-l-preserved g c =
