@@ -9,6 +9,6 @@ pub mod Stages
 pub mod MemoryLeft
 pub mod Homing
 pub mod Connections
+pub mod Turns
 pub mod Interpolating
 pub mod Onwards
-pub mod Turns

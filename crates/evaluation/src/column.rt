@@ -49,7 +49,7 @@ impl Turn<'_> {
     // Grades every cell, each from those before it.
     pub(crate) fn column<S: Scale>(&self, event: &Event, grades: &mut [S])
         requires { self.now.base + length self.now.automaton.cells.now ≤ length grades.old }
-        ensures graded { Graded S.ops event.now self.now self.now.automaton.cells.now (length self.now.automaton.cells.now) grades.new }
+        ensures graded { Graded S.ops event.now self.now (length self.now.automaton.cells.now) grades.new }
         ensures framed { Framed S.ops self.now.base (length self.now.automaton.cells.now) grades.old grades.new }
     {
         for (k, cell) in self.automaton.cells.iter().enumerate() {

@@ -25,7 +25,7 @@ impl Turn<'_> {
         requires timed { Timed (L.events log.now) self.now.count self.now.times.now }
         requires fits { self.now.base + length self.now.automaton.cells.now ≤ length grades.old }
         ensures done { EventDone S.ops (L.events log.now) self.now.automaton.cells.now self.now.automaton.locations.now self.now.count self.now.at grades.old grades.new }
-        ensures rest { Rest S.ops self.now.automaton.cells.now self.now.automaton.locations.now self.now.base grades.old grades.new }
+        ensures rest { Rest S.ops self.now.base (length self.now.automaton.cells.now) grades.old grades.new }
     {
         let event = event_of(log, self.at);
         self.column(&event, grades);
@@ -44,7 +44,7 @@ pub(crate) fn backward<S: Scale, L: Log>(
     requires counted { count ≡ length (L.events log.now) }
     requires fits { length automaton.now.locations.now * count + length automaton.now.cells.now ≤ length grades.old }
     ensures done { EventsDone S.ops (L.events log.now) automaton.now.cells.now automaton.now.locations.now count 0 grades.old grades.new }
-    ensures rest { Rest S.ops automaton.now.cells.now automaton.now.locations.now (length automaton.now.locations.now * count) grades.old grades.new }
+    ensures rest { Rest S.ops (length automaton.now.locations.now * count) (length automaton.now.cells.now) grades.old grades.new }
 {
     let times = times_of(log);
     let base = automaton.locations.len() * count;

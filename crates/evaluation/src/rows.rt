@@ -12,7 +12,7 @@ impl Turn<'_> {
     // Moves the roots of a column that is graded whole to the places of its start.
     pub(crate) fn settle<S: Scale>(&self, grades: &mut [S])
         requires { self.now.base + length self.now.automaton.cells.now ≤ length grades.old }
-        ensures { Moved S.ops self.now self.now.automaton.locations.now (length self.now.automaton.locations.now) grades.old grades.new }
+        ensures { Moved S.ops self.now (length self.now.automaton.locations.now) grades.old grades.new }
     {
         for (l, location) in self.automaton.locations.iter().enumerate() {
             grades[self.place(l, self.at)] = grades[self.base + location.root as usize];

@@ -73,7 +73,7 @@ impl Turn<'_> {
     fn value<S: Scale>(&self, grades: &[S], clock: u64, next: S, k: usize) -> S
         requires fits { self.now.base + length self.now.automaton.cells.now ≤ length grades.now }
         requires inside { k < length self.now.automaton.cells.now }
-        ensures { Valued S.ops self.now.automaton.cells.now self.now.automaton.locations.now self.now clock next grades.now k result }
+        ensures { Valued S.ops self.now clock next grades.now k result }
     {
         match self.automaton.cells[k] {
             Cell::And { left, right } => {
@@ -98,7 +98,7 @@ impl Turn<'_> {
         requires fits { self.now.base + length self.now.automaton.cells.now ≤ length grades.now }
         requires inside { root < length self.now.automaton.cells.now }
         ensures since { result.since ≡ clock }
-        ensures segmented { Segmented S.ops self.now.automaton.cells.now self.now.automaton.locations.now self.now grades.now root result }
+        ensures segmented { Segmented S.ops self.now grades.now root result }
     {
         Segment {
             since: clock,

@@ -21,7 +21,7 @@ impl Turn<'_> {
     // The deadline of a location at the event. At the last event there is none, so that every start is graded once.
     fn row_deadline(&self, location: usize) -> Option<u32>
         requires { location < length self.now.automaton.locations.now }
-        ensures { Deadline self.now.automaton.cells.now self.now.automaton.locations.now self.now location (upper_of result) }
+        ensures { Deadline self.now location (upper_of result) }
     {
         if self.at < self.count {
             let Location { root, is_final } = self.automaton.locations[location];
@@ -36,7 +36,7 @@ impl Turn<'_> {
     fn row_starts<S: Scale>(&self, grades: &mut [S], location: usize)
         requires fits { self.now.base + length self.now.automaton.cells.now ≤ length grades.old }
         requires there { location < length self.now.automaton.locations.now }
-        ensures { RowDone S.ops self.now.automaton.cells.now self.now.automaton.locations.now self.now self.now.times.now location grades.old grades.new }
+        ensures { RowDone S.ops self.now location grades.old grades.new }
     {
         let root = self.automaton.locations[location].root as usize;
         let deadline = self.row_deadline(location);
@@ -56,7 +56,7 @@ impl Turn<'_> {
     // The starts of every location but location 0, to which nothing jumps.
     pub(crate) fn starts<S: Scale>(&self, grades: &mut [S])
         requires { self.now.base + length self.now.automaton.cells.now ≤ length grades.old }
-        ensures { RowsDone S.ops self.now.automaton.cells.now self.now.automaton.locations.now self.now self.now.times.now (length self.now.automaton.locations.now) grades.old grades.new }
+        ensures { RowsDone S.ops self.now (length self.now.automaton.locations.now) grades.old grades.new }
     {
         for l in 1..self.automaton.locations.len() {
             self.row_starts(grades, l);
