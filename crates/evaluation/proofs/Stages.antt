@@ -68,5 +68,5 @@ module _ (t : Turn) {G : Type 0} (S : Ops G) (es : List Event) (timed : Timed es
               l p h r q z;
         }
 
-  pub event_done : EventDone S es cells locations t.count t.at old new
+  pub event_done : EventDone S es t old new
   event_done over settled = next_settled over settled

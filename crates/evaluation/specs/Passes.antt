@@ -98,11 +98,14 @@ module _ {G : Type 0} (S : Ops G) (t : Turn) where
 abbrev pub Rest : {G : Type 0} → Ops G → ℕ → ℕ → List G → List G → Type 0
 Rest S base cells old new = (p : ℕ) → base + cells ≤ p → slice_index_or new p S.low ≡ slice_index_or old p S.low
 
-module _ {G : Type 0} (S : Ops G) (es : List Event) (cells : List Cell) (locations : List Location) where
-  -- event i is done
-  abbrev pub EventDone : ℕ → ℕ → List G → List G → Type 0
-  EventDone n i old new = (after : ℕ → ℕ → G) → Settled S es cells locations after n (suc i) old → Settled S es cells locations after n i new
+module _ {G : Type 0} (S : Ops G) (es : List Event) where
+  -- the turn's event is done
+  abbrev pub EventDone : Turn → List G → List G → Type 0
+  EventDone t old new =
+      (after : ℕ → ℕ → G) → Settled S es t.automaton.cells.now t.automaton.locations.now after t.count (suc t.at) old →
+      Settled S es t.automaton.cells.now t.automaton.locations.now after t.count t.at new
 
   -- all events behind event i are done
-  abbrev pub EventsDone : ℕ → ℕ → List G → List G → Type 0
-  EventsDone n i old new = (after : ℕ → ℕ → G) → Settled S es cells locations after n (suc n) old → Settled S es cells locations after n (suc i) new
+  abbrev pub EventsDone : List Cell → List Location → ℕ → ℕ → List G → List G → Type 0
+  EventsDone cells locations n i old new =
+      (after : ℕ → ℕ → G) → Settled S es cells locations after n (suc n) old → Settled S es cells locations after n (suc i) new

@@ -24,7 +24,7 @@ impl Turn<'_> {
     fn at_event<S: Scale, L: Log>(&self, log: &L, grades: &mut [S])
         requires timed { Timed (L.events log.now) self.now.count self.now.times.now }
         requires fits { self.now.base + length self.now.automaton.cells.now ≤ length grades.old }
-        ensures done { EventDone S.ops (L.events log.now) self.now.automaton.cells.now self.now.automaton.locations.now self.now.count self.now.at grades.old grades.new }
+        ensures done { EventDone S.ops (L.events log.now) self.now grades.old grades.new }
         ensures rest { Rest S.ops self.now.base (length self.now.automaton.cells.now) grades.old grades.new }
     {
         let event = event_of(log, self.at);
