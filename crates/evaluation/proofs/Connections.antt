@@ -22,7 +22,8 @@ use Rattle.evaluation.specs.declared.boundary.Boundary.{Boundary}
 use Rattle.evaluation.specs.Boundaries.{after}
 use Rattle.evaluation.specs.Columns.{held_from}
 use Rattle.evaluation.specs.Rows.{no_location}
-use Rattle.evaluation.specs.Soundness.{Onward, Sound, Homes, clauses, automaton_of}
+use Rattle.evaluation.specs.Clauses.{clauses, automaton_of}
+use Rattle.evaluation.proofs.Soundness.{Onward, Sound, Homes}
 use Rattle.evaluation.specs.Passes.{worth}
 use Rattle.evaluation.specs.Evaluations.{needed, value_over, Evaluated}
 use Rattle.evaluation.specs.RuleEvaluations.{normal_form, grades_for, RuleEvaluated}
@@ -97,7 +98,6 @@ module _ (N : Normal) (cells : List Cell) (locations : List Location) (T : Tabul
             let inside : l < length (automaton N) = omega (arith, ap length tables_automaton, long_automaton) in
             subst (Homes l) (ap (λ (x : automata.Location). x.root) (ap (λ A. get_or A l nowhere) (sym tables_automaton) ∙ location_at cells locations l h)) (automaton_home N l inside);
         initial = omega (arith, locations_long, tab.locations_counted);
-        few_cells = omega (arith, cells_long, tab.cells_bounded, T.few);
         few_locations = omega (arith, locations_long, tab.locations_bounded, T.few);
       }
 

@@ -15,7 +15,7 @@ use Rattle.tables.specs.Intervals.{upper_of}
 use Rattle.tables.specs.CellTables.{cell_of}
 use Rattle.evaluation.specs.Deadlines.{sooner, later, combined, unless, deadline}
 use Rattle.evaluation.specs.declared.automaton.Automaton.{Automaton}
-use Rattle.evaluation.specs.Soundness.{clauses}
+use Rattle.evaluation.specs.Clauses.{clauses}
 use Rattle.evaluation.proofs.Turns.{sound}
 
 module _ (A : Automaton) (v : Bool) where

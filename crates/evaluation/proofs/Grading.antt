@@ -19,7 +19,8 @@ use Rattle.evaluation.specs.declared.turn.Turn.{Turn}
 use Rattle.evaluation.specs.Boundaries.{behind, after}
 use Rattle.evaluation.specs.Columns.{step, held_from, held, Graded}
 use Rattle.evaluation.specs.Rows.{no_location}
-use Rattle.evaluation.specs.Soundness.{Sound, Onward, clauses, automaton_of}
+use Rattle.evaluation.specs.Clauses.{clauses, automaton_of}
+use Rattle.evaluation.proofs.Soundness.{Sound, Onward}
 use Rattle.evaluation.specs.Passes.{worth, cell_grade, Column}
 use Rattle.evaluation.proofs.Columns.{Names, step_same}
 

@@ -1,4 +1,5 @@
 pub mod Places
+pub mod Soundness
 pub mod Columns
 pub mod RowMoves
 pub mod Grading

@@ -10,7 +10,7 @@ use Rattle.evaluation.specs.declared.boundary.Boundary.{Boundary}
 use Rattle.evaluation.specs.Boundaries.{after}
 use Rattle.evaluation.specs.Columns.{held_from, held, Framed}
 use Rattle.evaluation.specs.Rows.{Begun}
-use Rattle.evaluation.specs.Soundness.{automaton_of}
+use Rattle.evaluation.specs.Clauses.{automaton_of}
 use Rattle.evaluation.specs.Passes.{worth, Rest, EventsDone}
 use Rattle.evaluation.specs.Evaluations.{Evaluated}
 use Rattle.evaluation.proofs.Places.{place_below}

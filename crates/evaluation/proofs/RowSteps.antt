@@ -18,7 +18,7 @@ use Rattle.evaluation.specs.declared.turn.Turn.{Turn}
 use Rattle.evaluation.specs.declared.segments.Segment.{Segment}
 use Rattle.evaluation.specs.Columns.{held, Framed}
 use Rattle.evaluation.specs.Rows.{no_location}
-use Rattle.evaluation.specs.Soundness.{clauses}
+use Rattle.evaluation.specs.Clauses.{clauses}
 use Rattle.evaluation.specs.Deadlines.{deadline}
 use Rattle.evaluation.specs.Segments.{own_value, horizon}
 use Rattle.evaluation.specs.Times.{Rising}

@@ -6,7 +6,7 @@ use Rattle.rules.proofs.Facts.{cells_are, locations_are, normals_few}
 use Rattle.evaluation.specs.declared.automaton.Automaton.{Automaton}
 use Rattle.evaluation.specs.declared.turn.Turn.{Turn}
 use Rattle.evaluation.specs.RuleEvaluations.{normal_form}
-use Rattle.evaluation.specs.Soundness.{Sound}
+use Rattle.evaluation.proofs.Soundness.{Sound}
 use Rattle.evaluation.proofs.Places.{place_below}
 use Rattle.evaluation.proofs.Columns.{Names, Before}
 use Rattle.evaluation.proofs.Grading.{names_of}

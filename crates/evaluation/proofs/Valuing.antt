@@ -17,7 +17,7 @@ use Rattle.evaluation.specs.declared.turn.Turn.{Turn}
 use Rattle.evaluation.specs.Columns.{held_from}
 use Rattle.evaluation.specs.Deadlines.{sooner}
 use Rattle.evaluation.specs.Segments.{own_value, end_from, window_from, horizon}
-use Rattle.evaluation.specs.Soundness.{clauses}
+use Rattle.evaluation.specs.Clauses.{clauses}
 use Rattle.evaluation.specs.Passes.{cell_grade, fresh_value, Fresh, Valued}
 use Rattle.evaluation.proofs.Turns.{sound}
 

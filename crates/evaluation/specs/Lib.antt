@@ -2,7 +2,7 @@ pub mod Boundaries
 pub mod Times
 pub mod Columns
 pub mod Rows
-pub mod Soundness
+pub mod Clauses
 pub mod Deadlines
 pub mod Segments
 pub mod Passes

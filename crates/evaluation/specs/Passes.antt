@@ -17,7 +17,7 @@ use Rattle.evaluation.specs.Columns.{held_from, held, Framed}
 use Rattle.evaluation.specs.Rows.{no_location}
 use Rattle.evaluation.specs.Deadlines.{deadline}
 use Rattle.evaluation.specs.Segments.{own_value, horizon}
-use Rattle.evaluation.specs.Soundness.{clauses, automaton_of}
+use Rattle.evaluation.specs.Clauses.{clauses, automaton_of}
 
 -- what is taken for the deadline of location l at the turn's event: none, or, before the last event, its root's
 abbrev pub Deadline : Turn → ℕ → Upper → Type 0

@@ -4,7 +4,7 @@ ghost use Rattle.semantics.specs.Automata.{reject};
 ghost use Rattle.tables.specs.Intervals.{upper_of};
 ghost use Rattle.evaluation.specs.Deadlines as spec;
 ghost use Rattle.evaluation.specs.Deadlines.{unless, deadline};
-ghost use Rattle.evaluation.specs.Soundness.{clauses};
+ghost use Rattle.evaluation.specs.Clauses.{clauses};
 
 use crate::automaton::Automaton;
 use tables::Cell;

@@ -20,7 +20,7 @@ impl Turn<'_> {
     }
 }
 
-// Writes a grade into k places from `at` on.
+// Writes a grade into k places from `at` on. `fill` of slices asks for a clone that cannot fail, which `Copy` does not promise.
 pub(crate) fn fill<S: Scale>(grades: &mut [S], at: usize, k: usize, grade: S)
     requires { at + k ≤ length grades.old }
     ensures wrote { (a : ℕ) → a < k → held_from S.ops grades.new at a ≡ grade }

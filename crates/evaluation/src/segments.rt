@@ -4,7 +4,7 @@ ghost use Rattle.std.specs.Prelude.{◌≡◌, ◌+◌, ◌<◌, ◌≤◌, leng
 ghost use Rattle.semantics.specs.Automata.{reject};
 ghost use Rattle.tables.specs.Intervals.{upper_of, interval_of};
 ghost use Rattle.evaluation.specs.Segments.{end_from, window_from, horizon};
-ghost use Rattle.evaluation.specs.Soundness.{clauses};
+ghost use Rattle.evaluation.specs.Clauses.{clauses};
 ghost use Rattle.evaluation.specs.Passes.{Valued, Segmented};
 
 use crate::automaton::Automaton;

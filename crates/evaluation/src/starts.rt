@@ -53,7 +53,8 @@ impl Turn<'_> {
         }
     }
 
-    // The starts of every location but location 0, to which nothing jumps.
+    // The starts of every location but location 0, to which nothing jumps. By number: the loop reads no table, and a row is
+    // named by its location's number alone.
     pub(crate) fn starts<S: Scale>(&self, grades: &mut [S])
         requires { self.now.base + length self.now.automaton.cells.now ≤ length grades.old }
         ensures { RowsDone S.ops self.now (length self.now.automaton.locations.now) grades.old grades.new }
