@@ -4,11 +4,8 @@ use Rattle.scales.specs.Scales.{Ops}
 use Rattle.logs.specs.declared.event.Event.{Event}
 use Rattle.tables.specs.declared.cell.Cell.{Cell}
 use Rattle.tables.specs.declared.cell.Cell.TheVariants.{Accept, Reject, Holds, Fails, And, Or, Inside, Outside, AtMost, Above, Reset, Jump}
-use Rattle.evaluation.specs.declared.column.Turn.{Turn}
-use Rattle.evaluation.specs.Columns.{step, held_from, held, graded_by, Reach, Names, Before, Posed, Graded, Framed}
-
-pub framed_none : {G : Type 0} (S : Ops G) (at : ℕ) (gs : List G) → Framed S at 0 gs gs
-framed_none S at gs = record { below = λ p h. refl; above = λ p h. refl }
+use Rattle.evaluation.specs.declared.turn.Turn.{Turn}
+use Rattle.evaluation.specs.Columns.{step, held_from, held, graded_by, Reach, Graded, Framed}
 
 pub framed_more : {G : Type 0} (S : Ops G) (at k : ℕ) (old gs new : List G) (x : G) → new ≡ set gs (at + k) x →
     Framed S at k old gs → Framed S at (k + 1) old new
@@ -20,12 +17,24 @@ framed_more S at k old gs new x e f =
       above = λ p h. let ne : p ≢ at + k = omega arith in kept p ne ∙ f.above p (omega arith);
     }
 
-pub filled_more : {G : Type 0} (S : Ops G) (at k : ℕ) (gs : List G) (x : G) → at + k < length gs →
-    ((a : ℕ) → a < k → held_from S gs at a ≡ x) → (a : ℕ) → a < k + 1 → held_from S (set gs (at + k) x) at a ≡ x
-filled_more S at k gs x inside filled =
-    below_more (λ a. held_from S (set gs (at + k) x) at a ≡ x) k
-    (λ a h. let ne : at + a ≢ at + k = omega arith in get_or-set_other gs (at + k) (at + a) x S.low ne ∙ filled a h)
-    (get_or-set_same gs (at + k) x S.low inside)
+-- the cell at k names only earlier cells, and locations of which Q holds
+abbrev pub Names : (ℕ → Type 0) → ℕ → Cell → Type 0
+Names Q k Accept = Unit {0}
+Names Q k Reject = Unit {0}
+Names Q k (Holds p) = Unit {0}
+Names Q k (Fails p) = Unit {0}
+Names Q k (And a b) = (a < k) × (b < k)
+Names Q k (Or a b) = (a < k) × (b < k)
+Names Q k (Inside I) = Unit {0}
+Names Q k (Outside I) = Unit {0}
+Names Q k (AtMost u) = Unit {0}
+Names Q k (Above u) = Unit {0}
+Names Q k (Reset a) = a < k
+Names Q k (Jump l) = Q l
+
+-- the place of location l stands before the column
+abbrev pub Before : Turn → ℕ → Type 0
+Before t l = l * t.count + (t.at - 1) < t.base
 
 -- a cell has one grade, whatever stands where it does not look
 module _ {G : Type 0} (S : Ops G) (e : Event) (clock : ℕ) (own own' fresh fresh' next next' : ℕ → G) (Q : ℕ → Type 0) (k : ℕ)
@@ -60,11 +69,15 @@ module _ (t : Turn) (k n : ℕ) (fits : t.base + k ≤ n) where
   reach (Reset a) h = omega arith
   reach (Jump l) h = omega arith
 
-module _ {G : Type 0} (S : Ops G) (e : Event) (t : Turn) (cells : List Cell) (n : ℕ) (posed : Posed t cells n) where
+module _ {G : Type 0} (S : Ops G) (e : Event) (t : Turn) (n : ℕ) (fits : t.base + length t.automaton.cells.now ≤ n)
+    (named : (k : ℕ) → k < length t.automaton.cells.now → Names (Before t) k (get_or t.automaton.cells.now k Accept)) where
+  abbrev cells : List Cell
+  cells = t.automaton.cells.now
+
   pub reach_at : (k : ℕ) → k < length cells → Reach t n (get_or cells k Accept)
   reach_at k h =
-      let fits : t.base + k ≤ n = omega arith in
-      reach t k n fits (get_or cells k Accept) (posed.named k h)
+      let before : t.base + k ≤ n = omega arith in
+      reach t k n before (get_or cells k Accept) (named k h)
 
   -- a write at cell k leaves what the cells up to k are graded from
   regraded : (k : ℕ) (gs : List G) (x : G) → k < length cells → (a : ℕ) → a ≤ k →
@@ -77,15 +90,15 @@ module _ {G : Type 0} (S : Ops G) (e : Event) (t : Turn) (cells : List Cell) (n 
       step_same S e 0 (held_from S gs t.base) (held_from S (set gs at x) t.base) (held_from S gs t.base) (held_from S (set gs at x) t.base)
       (λ l. held S t.count gs l t.at) (λ l. held S t.count (set gs at x) l t.at) (Before t) a column column
       (λ l q. let ne : l * t.count + (t.at - 1) ≢ at = omega arith in kept (l * t.count + (t.at - 1)) ne)
-      (get_or cells a Accept) (posed.named a (omega arith))
+      (get_or cells a Accept) (named a (omega arith))
 
   pub graded_more : (k : ℕ) (gs new : List G) → length gs ≡ n → k < length cells →
-      new ≡ set gs (t.base + k) (graded_by S e t gs (get_or cells k Accept)) → Graded S e t cells k gs → Graded S e t cells (k + 1) new
+      new ≡ set gs (t.base + k) (graded_by S e t gs (get_or cells k Accept)) → Graded S e t k gs → Graded S e t (k + 1) new
   graded_more k gs new long inside written graded =
       let at = t.base + k in
       let x = graded_by S e t gs (get_or cells k Accept) in
       let room : at < length gs = omega arith in
-      subst (λ ns. Graded S e t cells (k + 1) ns) (sym written) (
+      subst (λ ns. Graded S e t (k + 1) ns) (sym written) (
       below_more (λ a. held_from S (set gs at x) t.base a ≡ graded_by S e t (set gs at x) (get_or cells a Accept)) k
       (λ a h. let ne : t.base + a ≢ at = omega arith in
       get_or-set_other gs at (t.base + a) x S.low ne ∙ graded a h ∙ regraded k gs x inside a (omega arith))

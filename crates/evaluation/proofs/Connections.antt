@@ -1,8 +1,6 @@
 -- The tables of a rule can be run, and stand for its automaton.
-use Rattle.std.proofs.Common.{◌≡◌, ℕ, suc, ◌+◌, ◌*◌, ◌<◌, ◌≤◌, false, List, [], ◌∷◌, length, get_or, Some, sym, refl, ap, ◌∙◌, subst, ap₂, arith}
+use Rattle.std.proofs.Common.{◌≡◌, ℕ, suc, ◌+◌, ◌*◌, ◌<◌, ◌≤◌, false, List, [], ◌∷◌, length, get_or, sym, refl, ap, ◌∙◌, subst, ap₂, arith}
 use Rattle.std.proofs.lemmas.List.{get_or-map, length-map}
-use Rattle.std.proofs.lemmas.Bool.Decides.{nat_tests}
-use Rattle.refusals.specs.declared.refusal.Refusal.TheVariants.{MemoryTooShort}
 use Rattle.scales.specs.Scales.{Ops}
 use Rattle.logs.specs.declared.event.Event.{Event}
 use Rattle.semantics.specs.Words.{word}
@@ -24,10 +22,11 @@ use Rattle.evaluation.specs.declared.boundary.Boundary.{Boundary}
 use Rattle.evaluation.specs.Boundaries.{after}
 use Rattle.evaluation.specs.Columns.{held_from}
 use Rattle.evaluation.specs.Rows.{no_location}
-use Rattle.evaluation.specs.Soundness.{Onward, Sound, Homes, clauses, automaton_of}
+use Rattle.evaluation.specs.Clauses.{clauses, automaton_of}
+use Rattle.evaluation.proofs.Soundness.{Onward, Sound, Homes}
 use Rattle.evaluation.specs.Passes.{worth}
 use Rattle.evaluation.specs.Evaluations.{needed, value_over, Evaluated}
-use Rattle.evaluation.specs.RuleEvaluations.{normal_form, grades_for, memory_refusal, RuleEvaluated}
+use Rattle.evaluation.specs.RuleEvaluations.{normal_form, grades_for, RuleEvaluated}
 use Rattle.evaluation.proofs.Grading.{location_at}
 use Rattle.evaluation.proofs.Homing.{automaton_home}
 use Rattle.evaluation.proofs.Onwards.{table_onward}
@@ -99,7 +98,6 @@ module _ (N : Normal) (cells : List Cell) (locations : List Location) (T : Tabul
             let inside : l < length (automaton N) = omega (arith, ap length tables_automaton, long_automaton) in
             subst (Homes l) (ap (λ (x : automata.Location). x.root) (ap (λ A. get_or A l nowhere) (sym tables_automaton) ∙ location_at cells locations l h)) (automaton_home N l inside);
         initial = omega (arith, locations_long, tab.locations_counted);
-        few_cells = omega (arith, cells_long, tab.cells_bounded, T.few);
         few_locations = omega (arith, locations_long, tab.locations_bounded, T.few);
       }
 
@@ -126,6 +124,3 @@ module _ (R : Rule) (es : List Event) (cells : List Cell) (locations : List Loca
         columns = λ a h. subst (λ k. held_from S new (k * length es) a ≡ S.low) (sym ls) (made.columns a (omega arith));
         rest = λ p h. made.rest p (omega (arith, need_is));
       }
-
-pub refusal_short : (need m : ℕ) → m < need → memory_refusal need m ≡ Some MemoryTooShort
-refusal_short need m short = grind (arith, nat_tests)

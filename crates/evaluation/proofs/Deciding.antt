@@ -11,13 +11,17 @@ use Rattle.semantics.specs.Cells.{clause_of}
 use Rattle.tables.specs.declared.interval.Interval as of_interval
 use Rattle.tables.specs.declared.cell.Cell.{Cell}
 use Rattle.tables.specs.declared.cell.Cell.TheVariants.{Accept, Reject, Holds, Fails, And, Or, Inside, Outside, AtMost, Above, Reset, Jump}
-use Rattle.tables.specs.declared.cell.Location.{Location}
 use Rattle.tables.specs.Intervals.{upper_of}
 use Rattle.tables.specs.CellTables.{cell_of}
 use Rattle.evaluation.specs.Deadlines.{sooner, later, combined, unless, deadline}
-use Rattle.evaluation.specs.Soundness.{Sound, clauses}
+use Rattle.evaluation.specs.declared.automaton.Automaton.{Automaton}
+use Rattle.evaluation.specs.Clauses.{clauses}
+use Rattle.evaluation.proofs.Turns.{sound}
 
-module _ (cells : List Cell) (locations : List Location) (sound : Sound cells locations) (v : Bool) where
+module _ (A : Automaton) (v : Bool) where
+  abbrev cells : List Cell
+  cells = A.cells.now
+
   abbrev at : ℕ → Upper
   at a = deadline v (get_or (clauses cells) a reject)
 
@@ -52,7 +56,16 @@ module _ (cells : List Cell) (locations : List Location) (sound : Sound cells lo
   by_clause (Jump l) = refl
 
   pub deadline_at : (k : ℕ) → k < length cells → (c : Cell) → get_or cells k Accept ≡ c → by_cell c ≡ deadline v (get_or (clauses cells) k reject)
-  deadline_at k h c is = sym (ap (deadline v) (sound.reads k h) ∙ by_clause (get_or cells k Accept) ∙ ap by_cell is)
+  deadline_at k h c is = sym (ap (deadline v) ((sound A).reads k h) ∙ by_clause (get_or cells k Accept) ∙ ap by_cell is)
+
+  -- once the verdict is known, of two parts the later or the earlier
+  pub deadline_and : (k : ℕ) → k < length cells → (a b : ℕ) → get_or cells k Accept ≡ And a b → (w : Bool) → v ≡ w →
+      combined w (at a) (at b) ≡ deadline v (get_or (clauses cells) k reject)
+  deadline_and k h a b is w e = ap (λ x. combined x (at a) (at b)) (sym e) ∙ deadline_at k h (And a b) is
+
+  pub deadline_or : (k : ℕ) → k < length cells → (a b : ℕ) → get_or cells k Accept ≡ Or a b → (w : Bool) → v ≡ w →
+      combined (not w) (at a) (at b) ≡ deadline v (get_or (clauses cells) k reject)
+  deadline_or k h a b is w e = ap (λ x. combined (not x) (at a) (at b)) (sym e) ∙ deadline_at k h (Or a b) is
 
   -- what is neither a test nor made of two parts is never decided
   pub undecided : (c : Cell) → ((a b : ℕ) → c ≡ And a b → ⊥) → ((a b : ℕ) → c ≡ Or a b → ⊥) → ((I : of_interval.Interval) → c ≡ Inside I → ⊥) →

@@ -15,13 +15,14 @@ use Rattle.tables.specs.declared.cell.Cell.TheVariants.{Accept, Reject, Holds, F
 use Rattle.tables.specs.declared.cell.Location.{Location}
 use Rattle.tables.specs.CellTables.{cell_of, entry_of, entries_of}
 use Rattle.evaluation.specs.declared.boundary.Boundary.{Boundary}
-use Rattle.evaluation.specs.declared.column.Turn.{Turn}
+use Rattle.evaluation.specs.declared.turn.Turn.{Turn}
 use Rattle.evaluation.specs.Boundaries.{behind, after}
-use Rattle.evaluation.specs.Columns.{step, held_from, held, Names, Graded}
+use Rattle.evaluation.specs.Columns.{step, held_from, held, Graded}
 use Rattle.evaluation.specs.Rows.{no_location}
-use Rattle.evaluation.specs.Soundness.{Sound, Onward, clauses, automaton_of}
+use Rattle.evaluation.specs.Clauses.{clauses, automaton_of}
+use Rattle.evaluation.proofs.Soundness.{Sound, Onward}
 use Rattle.evaluation.specs.Passes.{worth, cell_grade, Column}
-use Rattle.evaluation.proofs.Columns.{step_same}
+use Rattle.evaluation.proofs.Columns.{Names, step_same}
 
 pub names_of : (n k : ℕ) (Q : ℕ → Type 0) → ((l : ℕ) → 0 < l → l < n → Q l) → (c : Cell) → Below n k (cell_of c) → Onward (cell_of c) → Names Q k c
 names_of n k Q there Accept h o = tt
@@ -87,30 +88,6 @@ module _ (cells : List Cell) (locations : List Location) where
       cell_grade_is s i k h =
           ap (clause_value S (word S es) (λ l r. worth S es cells locations over l r (suc i)) s i) (sound.reads k h) ∙ by_clause s i (get_or cells k Accept)
 
-      -- a column that is graded cell by cell has the values of the clauses
-      pub column_is : (t : Turn) (e : Event) (gs : List G) → e ≡ event_at es t.at →
-          ((l : ℕ) → 0 < l → l < length locations → held S t.count gs l t.at ≡ worth S es cells locations over l t.at (suc t.at)) →
-          Graded S e t cells (length cells) gs → (k : ℕ) → k ≤ length cells → Column S es cells locations over t.base t.at t.at k gs
-      column_is t e gs told row graded zero h = λ a q. absurd (omega arith)
-      column_is t e gs told row graded (suc k) h =
-          let i = t.at in
-          let value = cell_grade S es cells locations over i i in
-          let next : ℕ → G = λ l. worth S es cells locations over l i (suc i) in
-          let before = column_is t e gs told row graded k (omega arith) in
-          let inside : k < length cells = omega arith in
-          let still : 0 ≡ elapsed (word S es) i i = omega arith in
-          let here : held_from S gs t.base k ≡ value k =
-          graded k inside
-          ∙ step_same S e 0 (held_from S gs t.base) value (held_from S gs t.base) value
-          (λ l. held S t.count gs l i) next (λ l. (0 < l) × (l < length locations)) k before before (λ l q. row l q.0 q.1)
-          (get_or cells k Accept) (names_of (length locations) k (λ l. (0 < l) × (l < length locations)) (λ l p q. (p, q)) (get_or cells k Accept) (sound.earlier k inside) (sound.onward k inside))
-          ∙ ap (λ x. step S x 0 value value next (get_or cells k Accept)) told
-          ∙ ap (λ x. step S (event_at es i) x value value next (get_or cells k Accept)) still
-          ∙ sym (cell_grade_is i i k inside) in
-          let one : suc k ≡ k + 1 = omega arith in
-          subst (λ m. Column S es cells locations over t.base i i m gs) (sym one)
-          (below_more (λ a. held_from S gs t.base a ≡ value a) k before here)
-
     -- one event back
     pub worth_is : (l s i : ℕ) → l < length locations → i ≤ length es →
         worth S es cells locations over l s i ≡ cell_grade S es cells locations over s i (get_or locations l no_location).root
@@ -133,3 +110,34 @@ module _ (cells : List Cell) (locations : List Location) where
     worth_end l s =
         let none_left : suc (length es) - suc (length es) ≡ 0 = omega arith in
         ap (λ m. value_before S (word S es) (automaton_of cells locations) over m l s) none_left
+
+module _ {G : Type 0} (S : Ops G) (es : List Event) (over : ℕ → ℕ → G) (t : Turn) (sound : Sound t.automaton.cells.now t.automaton.locations.now) where
+  abbrev cells : List Cell
+  cells = t.automaton.cells.now
+
+  abbrev locations : List Location
+  locations = t.automaton.locations.now
+
+  -- a column that is graded cell by cell has the values of the clauses
+  pub column_is : (e : Event) (gs : List G) → e ≡ event_at es t.at →
+      ((l : ℕ) → 0 < l → l < length locations → held S t.count gs l t.at ≡ worth S es cells locations over l t.at (suc t.at)) →
+      Graded S e t (length cells) gs → (k : ℕ) → k ≤ length cells → Column S es cells locations over t.base t.at t.at k gs
+  column_is e gs told row graded zero h = λ a q. absurd (omega arith)
+  column_is e gs told row graded (suc k) h =
+      let i = t.at in
+      let value = cell_grade S es cells locations over i i in
+      let next : ℕ → G = λ l. worth S es cells locations over l i (suc i) in
+      let before = column_is e gs told row graded k (omega arith) in
+      let inside : k < length cells = omega arith in
+      let still : 0 ≡ elapsed (word S es) i i = omega arith in
+      let here : held_from S gs t.base k ≡ value k =
+      graded k inside
+      ∙ step_same S e 0 (held_from S gs t.base) value (held_from S gs t.base) value
+      (λ l. held S t.count gs l i) next (λ l. (0 < l) × (l < length locations)) k before before (λ l q. row l q.0 q.1)
+      (get_or cells k Accept) (names_of (length locations) k (λ l. (0 < l) × (l < length locations)) (λ l p q. (p, q)) (get_or cells k Accept) (sound.earlier k inside) (sound.onward k inside))
+      ∙ ap (λ x. step S x 0 value value next (get_or cells k Accept)) told
+      ∙ ap (λ x. step S (event_at es i) x value value next (get_or cells k Accept)) still
+      ∙ sym (cell_grade_is cells locations S es over sound i i k inside) in
+      let one : suc k ≡ k + 1 = omega arith in
+      subst (λ m. Column S es cells locations over t.base i i m gs) (sym one)
+      (below_more (λ a. held_from S gs t.base a ≡ value a) k before here)

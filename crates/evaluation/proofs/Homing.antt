@@ -4,7 +4,7 @@ use Rattle.semantics.specs.Normals.{Normal, top, bottom, fact, opposed, both, ei
 use Rattle.semantics.specs.Automata.{Location, transition, locations_of, automaton, nowhere}
 use Rattle.semantics.proofs.Indexed.{All, all_append, all_at}
 use Rattle.semantics.proofs.Places.{length-locations}
-use Rattle.evaluation.specs.Soundness.{Homes}
+use Rattle.evaluation.proofs.Soundness.{Homes}
 
 abbrev AtHome : ℕ → Location → Type 0
 AtHome l x = Homes l x.root

@@ -10,7 +10,7 @@ use Rattle.semantics.specs.Automata.{Clause, accept, reject, holds, fails, and, 
 use Rattle.semantics.specs.Values.{test, clause_value}
 use Rattle.evaluation.specs.Deadlines.{sooner}
 use Rattle.evaluation.specs.Segments.{own_value, end_from, window_from, horizon}
-use Rattle.evaluation.specs.Soundness.{Homes}
+use Rattle.evaluation.proofs.Soundness.{Homes}
 
 -- the clause's value, where it jumps to l alone
 module _ {G : Type 0} (S : Ops G) (w : Word G) (on : ℕ → ℕ → G) (l s i : ℕ) where

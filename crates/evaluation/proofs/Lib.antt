@@ -1,4 +1,5 @@
 pub mod Places
+pub mod Soundness
 pub mod Columns
 pub mod RowMoves
 pub mod Grading
@@ -9,5 +10,6 @@ pub mod Stages
 pub mod MemoryLeft
 pub mod Homing
 pub mod Connections
+pub mod Turns
 pub mod Interpolating
 pub mod Onwards

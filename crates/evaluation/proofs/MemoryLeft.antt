@@ -10,7 +10,7 @@ use Rattle.evaluation.specs.declared.boundary.Boundary.{Boundary}
 use Rattle.evaluation.specs.Boundaries.{after}
 use Rattle.evaluation.specs.Columns.{held_from, held, Framed}
 use Rattle.evaluation.specs.Rows.{Begun}
-use Rattle.evaluation.specs.Soundness.{automaton_of}
+use Rattle.evaluation.specs.Clauses.{automaton_of}
 use Rattle.evaluation.specs.Passes.{worth, Rest, EventsDone}
 use Rattle.evaluation.specs.Evaluations.{Evaluated}
 use Rattle.evaluation.proofs.Places.{place_below}
@@ -18,7 +18,7 @@ use Rattle.evaluation.proofs.Grading.{after_at, worth_end}
 
 module _ {G : Type 0} (S : Ops G) (es : List Event) (cells : List Cell) (locations : List Location) where
   pub evaluated : (b : Boundary) (n : ℕ) (x : G) (old begun back new : List G) → n ≡ length es → x ≡ S.low →
-      Begun S b locations n (length locations) old begun → EventsDone S es cells locations n 0 begun back → Rest S cells locations (length locations * n) begun back →
+      Begun S b locations n (length locations) old begun → EventsDone S es cells locations n 0 begun back → Rest S (length locations * n) (length cells) begun back →
       ((a : ℕ) → a < 2 * length cells → held_from S new (length locations * n) a ≡ x) → Framed S (length locations * n) (2 * length cells) back new →
       Evaluated S es cells locations b old new
   evaluated b n x old begun back new counted low filled done rest wrote framed =

@@ -4,7 +4,7 @@ use Rattle.semantics.specs.Normals.{Normal, top, bottom, fact, opposed, both, ei
 use Rattle.semantics.specs.Cells.{Cell, size, cells, table}
 use Rattle.semantics.proofs.Indexed.{All, all_append, all_at}
 use Rattle.semantics.proofs.Cells.{length-cells}
-use Rattle.evaluation.specs.Soundness.{Onward}
+use Rattle.evaluation.proofs.Soundness.{Onward}
 
 -- whatever its number
 abbrev Jumping : ℕ → Cell → Type 0

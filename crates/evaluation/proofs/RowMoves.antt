@@ -1,69 +1,43 @@
 -- The rows of memory as they are written.
-use Rattle.std.proofs.Common.{◌≡◌, ℕ, ◌+◌, ◌-◌, ◌*◌, ◌<◌, ◌≢◌, List, length, get_or, set, sym, refl, ◌∙◌, subst, ⊎_elim, add-mul, one-mul, arith, get_or-set_other, get_or-set_same, below_more}
-use Rattle.std.proofs.lemmas.Bool.{cases_eq}
+use Rattle.std.proofs.Common.{◌≡◌, ℕ, ◌+◌, ◌-◌, ◌*◌, ◌<◌, ◌≤◌, ◌≢◌, List, length, get_or, set, sym, ◌∙◌, subst, arith, get_or-set_other, get_or-set_same, below_more}
 use Rattle.scales.specs.Scales.{Ops}
 use Rattle.tables.specs.declared.cell.Location.{Location}
-use Rattle.evaluation.specs.declared.boundary.Boundary.{Boundary}
-use Rattle.evaluation.specs.declared.column.Turn.{Turn}
-use Rattle.evaluation.specs.Boundaries.{behind}
-use Rattle.evaluation.specs.Columns.{held_from, held, Framed}
-use Rattle.evaluation.specs.Rows.{no_location, Rooted, Moved, Begun}
+use Rattle.evaluation.specs.declared.turn.Turn.{Turn}
+use Rattle.evaluation.specs.Columns.{held_from, held}
+use Rattle.evaluation.specs.Rows.{no_location, Moved}
 use Rattle.evaluation.proofs.Places.{place_below, same_event, same_row}
 
-module _ {G : Type 0} (S : Ops G) where
-  pub moved_none : (t : Turn) (locations : List Location) (gs : List G) → Moved S t locations 0 gs gs
-  moved_none t locations gs = record { wrote = λ l h. absurd (omega arith); others = λ l r h p q ne. refl; beyond = λ p h. refl }
+module _ {G : Type 0} (S : Ops G) (t : Turn) (j : ℕ) (old gs : List G) (fits : t.base + length t.automaton.cells.now ≤ length gs)
+    (inside : j < length t.automaton.locations.now) (moved : Moved S t j old gs) where
+  abbrev locations : List Location
+  locations = t.automaton.locations.now
 
-  module _ (t : Turn) (locations : List Location) (j : ℕ) (old gs : List G) (rooted : Rooted t locations (length gs)) (inside : j < length locations)
-      (moved : Moved S t locations j old gs) where
-    abbrev root : ℕ
-    root = (get_or locations j no_location).root
+  abbrev root : ℕ
+  root = (get_or locations j no_location).root
 
-    abbrev grade : G
-    grade = held_from S gs t.base root
+  abbrev grade : G
+  grade = held_from S gs t.base root
 
-    abbrev at : ℕ
-    at = j * t.count + (t.at - 1)
+  abbrev at : ℕ
+  at = j * t.count + (t.at - 1)
 
-    pub moved_more : (new : List G) → new ≡ set gs at grade → Moved S t locations (j + 1) old new
-    moved_more new written =
-        let n = t.count in
-        let s = t.at in
-        let started = rooted.started in
-        let logged = rooted.logged in
-        let before = rooted.before in
-        let lt : at < length locations * n = place_below j n s (length locations) inside started logged in
-        let room : at < length gs = omega (arith, rooted.rows) in
-        subst (λ ns. Moved S t locations (j + 1) old ns) (sym written) (record {
-          wrote =
-              below_more (λ l. held S n (set gs at grade) l s ≡ held_from S old t.base (get_or locations l no_location).root) j
-              (λ l h. let ne : l * n + (s - 1) ≢ at = λ e. let same : l ≡ j = same_row l j n s s started logged started logged e in omega arith in
-              get_or-set_other gs at (l * n + (s - 1)) grade S.low ne ∙ moved.wrote l h)
-              (get_or-set_same gs at grade S.low room ∙ moved.beyond (t.base + root) (omega arith));
-          others =
-              λ l r h p q apart.
-              let ne : l * n + (r - 1) ≢ at = λ e. apart (same_event l j n r s p q started logged e) in
-              get_or-set_other gs at (l * n + (r - 1)) grade S.low ne ∙ moved.others l r h p q apart;
-          beyond = λ p h. let ne : p ≢ at = omega arith in get_or-set_other gs at p grade S.low ne ∙ moved.beyond p h;
-        })
-
-  pub begun_none : (b : Boundary) (locations : List Location) (n : ℕ) (gs : List G) → Begun S b locations n 0 gs gs
-  begun_none b locations n gs = record { rows = λ l r h p q. absurd (omega arith); above = λ p h. refl }
-
-  pub begun_more : (b : Boundary) (locations : List Location) (n j : ℕ) (old gs new : List G) (x : G) → x ≡ behind S b (get_or locations j no_location).is_final →
-      Begun S b locations n j old gs → ((a : ℕ) → a < n → held_from S new (j * n) a ≡ x) → Framed S (j * n) n gs new →
-      Begun S b locations n (j + 1) old new
-  begun_more b locations n j old gs new x is begun row framed =
-      record {
-        rows =
-            λ l r h p q.
-            ⊎_elim
-            (λ e. subst (λ y. held S n new y r ≡ behind S b (get_or locations y no_location).is_final) (sym e) (row (r - 1) (omega arith) ∙ is))
-            (λ ne. let less : l < j = omega arith in
-            framed.below (l * n + (r - 1)) (place_below l n r j less p q) ∙ begun.rows l r less p q)
-            (cases_eq l j);
-        above =
-            λ p h.
-            let e : (j + 1) * n ≡ j * n + n = simp (add-mul, one-mul) in
-            framed.above p (omega arith) ∙ begun.above p (omega arith);
-      }
+  pub moved_more : (new : List G) → new ≡ set gs at grade → Moved S t (j + 1) old new
+  moved_more new written =
+      let n = t.count in
+      let s = t.at in
+      let started = t.begun in
+      let logged = t.logged in
+      let lt : at < length locations * n = place_below j n s (length locations) inside started logged in
+      let room : at < length gs = omega (arith, t.based) in
+      subst (λ ns. Moved S t (j + 1) old ns) (sym written) (record {
+        wrote =
+            below_more (λ l. held S n (set gs at grade) l s ≡ held_from S old t.base (get_or locations l no_location).root) j
+            (λ l h. let ne : l * n + (s - 1) ≢ at = λ e. let same : l ≡ j = same_row l j n s s started logged started logged e in omega arith in
+            get_or-set_other gs at (l * n + (s - 1)) grade S.low ne ∙ moved.wrote l h)
+            (get_or-set_same gs at grade S.low room ∙ moved.beyond (t.base + root) (omega (arith, t.based)));
+        others =
+            λ l r h p q apart.
+            let ne : l * n + (r - 1) ≢ at = λ e. apart (same_event l j n r s p q started logged e) in
+            get_or-set_other gs at (l * n + (r - 1)) grade S.low ne ∙ moved.others l r h p q apart;
+        beyond = λ p h. let ne : p ≢ at = omega arith in get_or-set_other gs at p grade S.low ne ∙ moved.beyond p h;
+      })

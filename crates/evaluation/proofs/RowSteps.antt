@@ -1,5 +1,5 @@
 -- The row of a location, from one start to the one before.
-use Rattle.std.proofs.Common.{◌≡◌, ℕ, suc, ◌+◌, ◌-◌, ◌*◌, ◌<◌, ◌≤◌, ◌≢◌, List, length, get_or, set, sym, refl, ap, ◌∙◌, subst, ap₂, inl, inr, ⊎_elim, true≢false, add-mul, one-mul, arith, get_or-set_other, get_or-set_same}
+use Rattle.std.proofs.Common.{◌≡◌, ℕ, suc, ◌+◌, ◌-◌, ◌*◌, ◌<◌, ◌≤◌, ◌≢◌, List, length, get_or, set, sym, ap, ◌∙◌, subst, ap₂, inl, inr, ⊎_elim, true≢false, add-mul, one-mul, arith, get_or-set_other, get_or-set_same}
 use Rattle.std.proofs.lemmas.Bool.{cases_eq, cases_lt}
 use Rattle.std.proofs.lemmas.Nat.{mul-le}
 use Rattle.scales.specs.Scales.{Ops, Laws}
@@ -14,16 +14,18 @@ use Rattle.semantics.specs.Continuations.{Timely}
 use Rattle.tables.specs.declared.cell.Cell.{Cell}
 use Rattle.tables.specs.declared.cell.Location.{Location}
 use Rattle.tables.specs.Intervals.{upper_of}
-use Rattle.evaluation.specs.declared.column.Turn.{Turn}
+use Rattle.evaluation.specs.declared.turn.Turn.{Turn}
 use Rattle.evaluation.specs.declared.segments.Segment.{Segment}
 use Rattle.evaluation.specs.Columns.{held, Framed}
 use Rattle.evaluation.specs.Rows.{no_location}
-use Rattle.evaluation.specs.Soundness.{clauses}
+use Rattle.evaluation.specs.Clauses.{clauses}
 use Rattle.evaluation.specs.Deadlines.{deadline}
 use Rattle.evaluation.specs.Segments.{own_value, horizon}
-use Rattle.evaluation.specs.Passes.{worth, cell_grade, fresh_value, Turned, Timed, Fresh, RowAt, Segmented, Deadline, Rising, RowDone, RowsDone}
+use Rattle.evaluation.specs.Times.{Rising}
+use Rattle.evaluation.specs.Passes.{worth, cell_grade, fresh_value, Timed, Fresh, RowAt, Segmented, Deadline, RowDone, RowsDone}
 use Rattle.evaluation.proofs.Places.{place_below, row_fits}
 use Rattle.evaluation.proofs.Grading.{worth_is}
+use Rattle.evaluation.proofs.Turns.{sound}
 use Rattle.evaluation.proofs.Interpolating.{Until, owned, horizon_here, segment_same, interpolated}
 use Rattle.evaluation.proofs.Deciding.{Passed, passed_on, decided}
 
@@ -52,43 +54,47 @@ times_rising es n times timed j k order inside =
     omega (arith, there j (omega arith), there k inside, times_rise es timed.timely (suc j) (suc k) (omega arith) (omega arith) (omega arith))
 
 -- the clock of a start, from the times
-pub clocked : {G : Type 0} (S : Ops G) (times : List ℕ) (s i n clock : ℕ) → 1 < s → s ≤ i → i ≤ n → clock ≡ get_or times (i - 1) 0 - get_or times (s - 2) 0 →
+pub clocked : {G : Type 0} (S : Ops G) (times : List ℕ) (s i n clock : ℕ) → 1 < s → s ≤ i → i ≤ n → clock ≡ get_or times (i - 1) 0 - get_or times (s - 1 - 1) 0 →
     (es : List Event) → Timed es n times → clock ≡ elapsed (word S es) (s - 1) i
 clocked S times s i n clock some order logged is es timed =
-    let before : get_or times (s - 1 - 1) 0 ≡ get_or times (s - 2) 0 = ap (λ k. get_or times k 0) (omega arith) in
     omega (arith, timed.told i (omega arith) logged, timed.told (s - 1) (omega arith) (omega arith))
 
 -- the clock of an earlier start has not less
 pub clock_rises : (times : List ℕ) (n s i since clock : ℕ) → Rising n times → 1 < s → s ≤ i → i ≤ n → since ≤ get_or times (i - 1) 0 - get_or times (s - 1) 0 →
-    clock ≡ get_or times (i - 1) 0 - get_or times (s - 2) 0 → since ≤ clock
-clock_rises times n s i since clock rising some order logged before is = omega (arith, rising (s - 2) (s - 1) (omega arith) (omega arith))
+    clock ≡ get_or times (i - 1) 0 - get_or times (s - 1 - 1) 0 → since ≤ clock
+clock_rises times n s i since clock rising some order logged before is = omega (arith, rising (s - 1 - 1) (s - 1) (omega arith) (omega arith))
 
 -- the starts of location l from s on are done
-pub record Reached {G : Type 0} (S : Ops G) (cells : List Cell) (locations : List Location) (t : Turn) (times : List ℕ) (l s : ℕ) (old new : List G) : Type 0 where
+pub record Reached {G : Type 0} (S : Ops G) (t : Turn) (l s : ℕ) (old new : List G) : Type 0 where
   pub done :
-      (es : List Event) (after : ℕ → ℕ → G) → Timed es t.count times → Fresh S es cells locations after t old →
-      RowAt S es cells locations after t l (suc t.at) old →
-      (r : ℕ) → s ≤ r → r < t.at → held S t.count new l r ≡ worth S es cells locations after l r t.at
+      (es : List Event) (after : ℕ → ℕ → G) → Timed es t.count t.times.now → Fresh S es after t old → RowAt S es after t l (suc t.at) old →
+      (r : ℕ) → s ≤ r → r < t.at → held S t.count new l r ≡ worth S es t.automaton.cells.now t.automaton.locations.now after l r t.at
   pub framed : Framed S (l * t.count + (s - 1)) (t.at - s) old new
 
-module _ {G : Type 0} (S : Ops G) (laws : Laws S) (cells : List Cell) (locations : List Location) (t : Turn) (m : ℕ) (turned : Turned cells locations t m)
-    (times : List ℕ) (l : ℕ) (there : l < length locations) where
+module _ {G : Type 0} (S : Ops G) (laws : Laws S) (t : Turn) (m : ℕ) (fits : t.base + length t.automaton.cells.now ≤ m)
+    (l : ℕ) (there : l < length t.automaton.locations.now) where
+  abbrev cells : List Cell
+  cells = t.automaton.cells.now
+
+  abbrev locations : List Location
+  locations = t.automaton.locations.now
+
+  abbrev times : List ℕ
+  times = t.times.now
+
   abbrev root : ℕ
   root = (get_or locations l no_location).root
 
-  pub reached_none : (gs : List G) → Reached S cells locations t times l t.at gs gs
-  reached_none gs = record { done = λ es after timed fresh row r h q. absurd (omega arith); framed = record { below = λ p h. refl; above = λ p h. refl } }
-
   -- the column stands behind the rows
   fresh_kept : (s : ℕ) (old new : List G) → 0 < s → s ≤ t.at → Framed S (l * t.count + (s - 1)) (t.at - s) old new →
-      (es : List Event) (after : ℕ → ℕ → G) → Fresh S es cells locations after t old → Fresh S es cells locations after t new
+      (es : List Event) (after : ℕ → ℕ → G) → Fresh S es after t old → Fresh S es after t new
   fresh_kept s old new begun order framed es after fresh a h =
-      let last = place_below l t.count t.at (length locations) there turned.begun turned.logged in
-      framed.above (t.base + a) (omega (arith, turned.laid.based)) ∙ fresh a h
+      let last = place_below l t.count t.at (length locations) there t.begun t.logged in
+      framed.above (t.base + a) (omega (arith, t.based)) ∙ fresh a h
 
   -- a segment of the memory as it is now is one of the memory as it was, since the column stays
-  pub segment_kept : (s : ℕ) (old gs : List G) (g : Segment G) → 0 < s → s ≤ t.at → Reached S cells locations t times l s old gs →
-      Segmented S cells locations t gs root g → Segmented S cells locations t old root g
+  pub segment_kept : (s : ℕ) (old gs : List G) (g : Segment G) → 0 < s → s ≤ t.at → Reached S t l s old gs →
+      Segmented S t gs root g → Segmented S t old root g
   segment_kept s old gs g begun order reached segmented =
       record {
         ends = segmented.ends;
@@ -98,13 +104,13 @@ module _ {G : Type 0} (S : Ops G) (laws : Laws S) (cells : List Cell) (locations
 
   -- a segment that is right by a clock
   pub record Fitting (old : List G) (clock : ℕ) (g : Segment G) : Type 0 where
-    pub segmented : Segmented S cells locations t old root g
+    pub segmented : Segmented S t old root g
     pub since : g.since ≤ clock
     pub until : Until (upper_of g.horizon) clock
 
   -- the one made by that clock is
-  pub fitting_new : (s : ℕ) (old gs : List G) (clock : ℕ) (g : Segment G) → 0 < s → s ≤ t.at → Reached S cells locations t times l s old gs →
-      g.since ≡ clock → Segmented S cells locations t gs root g → Fitting old clock g
+  pub fitting_new : (s : ℕ) (old gs : List G) (clock : ℕ) (g : Segment G) → 0 < s → s ≤ t.at → Reached S t l s old gs →
+      g.since ≡ clock → Segmented S t gs root g → Fitting old clock g
   fitting_new s old gs clock g begun order reached is segmented =
       record {
         segmented = segment_kept s old gs g begun order reached segmented;
@@ -113,7 +119,7 @@ module _ {G : Type 0} (S : Ops G) (laws : Laws S) (cells : List Cell) (locations
       }
 
   -- the value of a start by a segment
-  by_segment : (es : List Event) (after : ℕ → ℕ → G) (s clock : ℕ) (g : Segment G) (old : List G) → Fresh S es cells locations after t old → t.at ≤ length es →
+  by_segment : (es : List Event) (after : ℕ → ℕ → G) (s clock : ℕ) (g : Segment G) (old : List G) → Fresh S es after t old → t.at ≤ length es →
       clock ≡ elapsed (word S es) s t.at → Fitting old clock g →
       S.join (S.meet (worth S es cells locations after l s (suc t.at)) g.high) g.low ≡ worth S es cells locations after l s t.at
   unfolding cell_grade
@@ -126,22 +132,22 @@ module _ {G : Type 0} (S : Ops G) (laws : Laws S) (cells : List Cell) (locations
       ∙ sym (interpolated S laws value g.since next clause)
       ∙ segment_same S value g.since clock next fitting.since clause (subst (λ u. Until u clock) segmented.ends fitting.until)
       ∙ ap (λ x. own_value S value x next clause) is
-      ∙ sym (owned S (word S es) (λ k r. worth S es cells locations after k r (suc t.at)) l s t.at clause (turned.laid.sound.homes l there))
+      ∙ sym (owned S (word S es) (λ k r. worth S es cells locations after k r (suc t.at)) l s t.at clause ((sound t.automaton).homes l there))
       ∙ sym (worth_is cells locations S es after l s t.at there in_log)
 
   pub reached_more : (s s₁ clock p : ℕ) (g : Segment G) (old gs new : List G) → s₁ ≡ suc s → 0 < s → s₁ ≤ t.at → length gs ≡ m → p ≡ l * t.count + (s - 1) →
-      ((es : List Event) → Timed es t.count times → clock ≡ elapsed (word S es) s t.at) → Fitting old clock g → Reached S cells locations t times l s₁ old gs →
-      new ≡ set gs p (S.join (S.meet (get_or gs p S.low) g.high) g.low) → Reached S cells locations t times l s old new
+      ((es : List Event) → Timed es t.count times → clock ≡ elapsed (word S es) s t.at) → Fitting old clock g → Reached S t l s₁ old gs →
+      new ≡ set gs p (S.join (S.meet (get_or gs p S.low) g.high) g.low) → Reached S t l s old new
   reached_more s s₁ clock p g old gs new next begun order long at clocks fitting reached wrote =
       let before : Framed S (l * t.count + (s₁ - 1)) (t.at - s₁) old gs = reached.framed in
-      let inside : p < length gs = omega (arith, place_below l t.count s (length locations) there begun (omega (arith, turned.logged)), turned.laid.based, turned.laid.fits) in
+      let inside : p < length gs = omega (arith, place_below l t.count s (length locations) there begun (omega (arith, t.logged)), t.based, fits) in
       let x = S.join (S.meet (get_or gs p S.low) g.high) g.low in
       let put = moved_start S gs p (l * t.count + (s - 1)) x at inside in
       let framed : Framed S (l * t.count + (s - 1)) 1 gs new = subst (Framed S (l * t.count + (s - 1)) 1 gs) (sym wrote) put.1 in
       record {
         done =
             λ es after timed fresh row r h q.
-            let in_log : t.at ≤ length es = omega (arith, timed.counted, turned.logged) in
+            let in_log : t.at ≤ length es = omega (arith, timed.counted, t.logged) in
             let stood : get_or gs p S.low ≡ worth S es cells locations after l s (suc t.at) =
             ap (λ k. get_or gs k S.low) at ∙ before.below (l * t.count + (s - 1)) (omega arith) ∙ row s begun (omega arith) in
             let here : held S t.count new l s ≡ worth S es cells locations after l s t.at =
@@ -164,11 +170,11 @@ module _ {G : Type 0} (S : Ops G) (laws : Laws S) (cells : List Cell) (locations
         above = λ p h. framed.above p (omega arith);
       }
 
-  pub reached_all : (s : ℕ) (old new : List G) → s ≡ 1 → Reached S cells locations t times l s old new → RowDone S cells locations t times l old new
+  pub reached_all : (s : ℕ) (old new : List G) → s ≡ 1 → Reached S t l s old new → RowDone S t l old new
   reached_all s old new first reached =
       record {
         done = λ es after timed fresh row r h q. reached.done es after timed fresh row r (omega arith) q;
-        framed = wider s old new (omega arith) (omega (arith, turned.begun)) reached.framed;
+        framed = wider s old new (omega arith) (omega (arith, t.begun)) reached.framed;
       }
 
   -- behind its deadline a location has the same value at this event and the next
@@ -180,8 +186,8 @@ module _ {G : Type 0} (S : Ops G) (laws : Laws S) (cells : List Cell) (locations
       ∙ decided S laws (word S es) (λ k q. worth S es cells locations after k q (suc i)) r i (get_or (clauses cells) root reject) (get_or locations l no_location).is_final
       (subst (λ v. Passed v (elapsed (word S es) r i)) is passed)
 
-  pub reached_passed : (s clock : ℕ) (u : Upper) (old gs : List G) → 1 < s → s ≤ t.at → Deadline cells locations t l u → Passed u clock →
-      ((es : List Event) → Timed es t.count times → clock ≡ elapsed (word S es) (s - 1) t.at) → Reached S cells locations t times l s old gs → RowDone S cells locations t times l old gs
+  pub reached_passed : (s clock : ℕ) (u : Upper) (old gs : List G) → 1 < s → s ≤ t.at → Deadline t l u → Passed u clock →
+      ((es : List Event) → Timed es t.count times → clock ≡ elapsed (word S es) (s - 1) t.at) → Reached S t l s old gs → RowDone S t l old gs
   reached_passed s clock u old gs some order due passed clocks reached =
       record {
         done =
@@ -197,7 +203,7 @@ module _ {G : Type 0} (S : Ops G) (laws : Laws S) (cells : List Cell) (locations
                         let now_logged : t.at ≤ length es = omega (arith, known.0) in
                         let next_logged : suc t.at ≤ length es = omega (arith, known.0) in
                         let earlier = times_rise es timely r (s - 1) h (omega arith) (omega arith) in
-                        let later = times_rise es timely t.at (suc t.at) turned.begun (omega arith) next_logged in
+                        let later = times_rise es timely t.at (suc t.at) t.begun (omega arith) next_logged in
                         let here : Passed u (elapsed (word S es) r t.at) = passed_on u clock (elapsed (word S es) r t.at) (omega (arith, clocks es timed)) passed in
                         let next : Passed u (elapsed (word S es) r (suc t.at)) = passed_on u (elapsed (word S es) r t.at) (elapsed (word S es) r (suc t.at)) (omega arith) here in
                         reached.framed.below (l * t.count + (r - 1)) (omega arith) ∙ row r h q
@@ -210,26 +216,22 @@ module _ {G : Type 0} (S : Ops G) (laws : Laws S) (cells : List Cell) (locations
 
 -- from one location to the next
 
-module _ {G : Type 0} (S : Ops G) (cells : List Cell) (locations : List Location) (t : Turn) (m : ℕ) (turned : Turned cells locations t m) (times : List ℕ) where
-  pub rows_none : (gs : List G) → RowsDone S cells locations t times 1 gs gs
-  rows_none gs =
-      record { done = λ es after timed fresh rows l h q. absurd (omega arith); kept = λ l r h p q z. refl; behind = λ p h. refl }
-
-  pub rows_more : (j : ℕ) (old gs new : List G) → j < length locations → RowsDone S cells locations t times j old gs → RowDone S cells locations t times j gs new →
-      RowsDone S cells locations t times (j + 1) old new
+module _ {G : Type 0} (S : Ops G) (t : Turn) where
+  pub rows_more : (j : ℕ) (old gs new : List G) → j < length t.automaton.locations.now → RowsDone S t j old gs → RowDone S t j gs new →
+      RowsDone S t (j + 1) old new
   rows_more j old gs new inside before row =
       let n = t.count in
       let further : (j + 1) * n ≡ j * n + n = simp (add-mul, one-mul) in
-      let in_log = turned.logged in
-      let begun = turned.begun in
-      let fits = row_fits j n (length locations) inside in
+      let in_log = t.logged in
+      let begun = t.begun in
+      let fits = row_fits j n (length t.automaton.locations.now) inside in
       record {
         done =
             λ es after timed fresh rows l h q r p z.
             ⊎_elim
-            (λ e. subst (λ k. held S n new k r ≡ worth S es cells locations after k r t.at) (sym e)
+            (λ e. subst (λ k. held S n new k r ≡ worth S es t.automaton.cells.now t.automaton.locations.now after k r t.at) (sym e)
             (row.done es after timed
-            (λ a i. before.behind (t.base + a) (omega (arith, turned.laid.based)) ∙ fresh a i)
+            (λ a i. before.behind (t.base + a) (omega (arith, t.based)) ∙ fresh a i)
             (λ x y i. before.behind (j * n + (x - 1)) (omega arith) ∙ rows j (omega arith) inside x y i) r p z))
             (λ ne. let less : l < j = omega arith in
             row.framed.below (l * n + (r - 1)) (place_below l n r j less p (omega arith)) ∙ before.done es after timed fresh rows l h less r p z)

@@ -1,5 +1,5 @@
 -- The column of an event: every cell with its start there, graded from what stands in memory.
-use Rattle.std.specs.Prelude.{◌≡◌, ℕ, ◌+◌, ◌-◌, ◌*◌, ◌<◌, ◌≤◌, not, List, length, slice_index_or}
+use Rattle.std.specs.Prelude.{◌≡◌, ℕ, ◌+◌, ◌-◌, ◌*◌, ◌<◌, ◌≤◌, not, List, slice_index_or}
 use Rattle.scales.specs.Scales.{Ops}
 use Rattle.logs.specs.declared.event.Event.{Event}
 use Rattle.logs.specs.Logs.{reading_of}
@@ -8,7 +8,7 @@ use Rattle.semantics.specs.Values.{test}
 use Rattle.tables.specs.declared.cell.Cell.{Cell}
 use Rattle.tables.specs.declared.cell.Cell.TheVariants.{Accept, Reject, Holds, Fails, And, Or, Inside, Outside, AtMost, Above, Reset, Jump}
 use Rattle.tables.specs.Intervals.{upper_of, interval_of}
-use Rattle.evaluation.specs.declared.column.Turn.{Turn}
+use Rattle.evaluation.specs.declared.turn.Turn.{Turn}
 
 -- the grade of a cell at an event, from the clock, the cells with the same start, those whose start is the event,
 -- and the locations with the same start at the next event
@@ -54,36 +54,9 @@ Reach t n (Above u) = Unit {0}
 Reach t n (Reset a) = t.base + a < n
 Reach t n (Jump l) = l * t.count + (t.at - 1) < n
 
--- the cell at k names only earlier cells, and locations of which Q holds
-abbrev pub Names : (ℕ → Type 0) → ℕ → Cell → Type 0
-Names Q k Accept = Unit {0}
-Names Q k Reject = Unit {0}
-Names Q k (Holds p) = Unit {0}
-Names Q k (Fails p) = Unit {0}
-Names Q k (And a b) = (a < k) × (b < k)
-Names Q k (Or a b) = (a < k) × (b < k)
-Names Q k (Inside I) = Unit {0}
-Names Q k (Outside I) = Unit {0}
-Names Q k (AtMost u) = Unit {0}
-Names Q k (Above u) = Unit {0}
-Names Q k (Reset a) = a < k
-Names Q k (Jump l) = Q l
-
--- the place of location l stands before the column
-abbrev pub Before : Turn → ℕ → Type 0
-Before t l = l * t.count + (t.at - 1) < t.base
-
--- what a column is made from, in a memory of n grades
-pub record Posed (t : Turn) (cells : List Cell) (n : ℕ) : Type 0 where
-  pub started : 0 < t.at
-  pub logged : t.at ≤ t.count
-  pub few : t.count ≤ 512
-  pub named : (k : ℕ) → k < length cells → Names (Before t) k (slice_index_or cells k Accept)
-  pub fits : t.base + length cells ≤ n
-
 -- the first k cells of the column are graded from what stands in memory gs
-abbrev pub Graded : {G : Type 0} → Ops G → Event → Turn → List Cell → ℕ → List G → Type 0
-Graded S e t cells k gs = (a : ℕ) → a < k → held_from S gs t.base a ≡ graded_by S e t gs (slice_index_or cells a Accept)
+abbrev pub Graded : {G : Type 0} → Ops G → Event → Turn → ℕ → List G → Type 0
+Graded S e t k gs = (a : ℕ) → a < k → held_from S gs t.base a ≡ graded_by S e t gs (slice_index_or t.automaton.cells.now a Accept)
 
 -- new is old but for k places from `at` on
 pub record Framed {G : Type 0} (S : Ops G) (at k : ℕ) (old new : List G) : Type 0 where

@@ -7,7 +7,7 @@ use Rattle.tables.specs.declared.cell.Location.{Location}
 use Rattle.evaluation.specs.declared.boundary.Boundary.{Boundary}
 use Rattle.evaluation.specs.Boundaries.{after}
 use Rattle.evaluation.specs.Columns.{held_from, held}
-use Rattle.evaluation.specs.Soundness.{automaton_of}
+use Rattle.evaluation.specs.Clauses.{automaton_of}
 use Rattle.evaluation.specs.Passes.{worth}
 
 -- how many grades are needed: a row of each location, and two columns of all cells

@@ -1,7 +1,8 @@
 pub mod Boundaries
+pub mod Times
 pub mod Columns
 pub mod Rows
-pub mod Soundness
+pub mod Clauses
 pub mod Deadlines
 pub mod Segments
 pub mod Passes

@@ -1,8 +1,28 @@
+// The automaton of a rule, as tables.
+ghost use Rattle.std.specs.Prelude.{◌≡◌};
+ghost use Rattle.rules.specs.Rules.{rule_cells, rule_locations};
+
+use rules::Rule;
 use tables::{Cell, Location};
 
-// The tables of an automaton.
+// The tables, which the rule is asked for once. That they can be run follows from whose they are.
 #[derive(Clone, Copy)]
 pub(crate) struct Automaton<'a> {
+    rule: &'a Rule,
     pub(crate) cells: &'a [Cell],
     pub(crate) locations: &'a [Location],
+    ghost celled: { cells.now ≡ rule_cells rule.now },
+    ghost located: { locations.now ≡ rule_locations rule.now },
+}
+
+impl<'a> Automaton<'a> {
+    pub(crate) fn of(rule: &'a Rule) -> Automaton<'a>
+        ensures { result.rule.now ≡ rule.now }
+    {
+        Automaton {
+            rule,
+            cells: rule.cells(),
+            locations: rule.locations(),
+        }
+    }
 }

@@ -6,7 +6,7 @@ use scales::Scale;
 
 // What stands behind the last event: of a run highest for a final location and lowest for another,
 // of an outlook's passes the same grade for every location.
-#[derive(Clone, Copy)]
+#[derive(Clone, Copy, Debug, PartialEq, Eq)]
 pub enum Boundary {
     Run,
     Lowest,

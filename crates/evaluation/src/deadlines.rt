@@ -2,20 +2,27 @@
 ghost use Rattle.std.specs.Prelude.{◌≡◌, ◌<◌, length, slice_index_or};
 ghost use Rattle.semantics.specs.Automata.{reject};
 ghost use Rattle.tables.specs.Intervals.{upper_of};
-ghost use Rattle.evaluation.specs.Deadlines.{combined, unless, deadline};
-ghost use Rattle.evaluation.specs.Soundness.{Sound, clauses};
+ghost use Rattle.evaluation.specs.Deadlines as spec;
+ghost use Rattle.evaluation.specs.Deadlines.{unless, deadline};
+ghost use Rattle.evaluation.specs.Clauses.{clauses};
 
 use crate::automaton::Automaton;
 use tables::Cell;
 
-// Of two deadlines, where none is never: the later, for both, or the earlier, for either.
-pub(crate) fn combine(both: bool, a: Option<u32>, b: Option<u32>) -> Option<u32>
-    ensures { upper_of result ≡ combined both (upper_of a) (upper_of b) }
+// Of two deadlines the later, where none is never.
+fn later(a: Option<u32>, b: Option<u32>) -> Option<u32>
+    ensures { upper_of result ≡ spec.later (upper_of a) (upper_of b) }
+{
+    Some(a?.max(b?))
+}
+
+// And the earlier.
+pub(crate) fn sooner(a: Option<u32>, b: Option<u32>) -> Option<u32>
+    ensures { upper_of result ≡ spec.sooner (upper_of a) (upper_of b) }
 {
     match (a, b) {
-        (Some(u), Some(v)) => Some(if both { u.max(v) } else { u.min(v) }),
-        (Some(u), None) => if both { None } else { Some(u) },
-        (None, other) => if both { None } else { other },
+        (Some(u), Some(v)) => Some(u.min(v)),
+        _ => a.or(b),
     }
 }
 
@@ -25,28 +32,28 @@ fn end_unless(holds: bool, end: Option<u32>) -> Option<u32>
     if holds { None } else { end }
 }
 
-// The last clock reading at which cell k may still be other than the verdict, highest or lowest; none where it always may.
-pub(crate) fn deadline_of(automaton: Automaton<'_>, k: usize, verdict: bool) -> Option<u32>
-    requires sound { Sound automaton.cells.now automaton.locations.now }
-    requires inside { k < length automaton.cells.now }
-    ensures { upper_of result ≡ deadline verdict (slice_index_or (clauses automaton.entry.cells.now) k reject) }
-{
-    let cell = automaton.cells[k];
-    match cell {
-        Cell::And { left, right } => {
-            let a = deadline_of(automaton, left as usize, verdict);
-            let b = deadline_of(automaton, right as usize, verdict);
-            combine(verdict, a, b)
+impl Automaton<'_> {
+    // The last clock reading at which cell k may still be other than the verdict, highest or lowest; none where it always may.
+    pub(crate) fn deadline_of(&self, k: usize, verdict: bool) -> Option<u32>
+        requires { k < length self.now.cells.now }
+        ensures { upper_of result ≡ deadline verdict (slice_index_or (clauses self.now.cells.now) k reject) }
+    {
+        match self.cells[k] {
+            Cell::And { left, right } => {
+                let a = self.deadline_of(left as usize, verdict);
+                let b = self.deadline_of(right as usize, verdict);
+                if verdict { later(a, b) } else { sooner(a, b) }
+            }
+            Cell::Or { left, right } => {
+                let a = self.deadline_of(left as usize, verdict);
+                let b = self.deadline_of(right as usize, verdict);
+                if verdict { sooner(a, b) } else { later(a, b) }
+            }
+            Cell::Inside { interval } => end_unless(verdict, interval.upper),
+            Cell::Outside { interval } => end_unless(!verdict, interval.upper),
+            Cell::AtMost { upper } => end_unless(verdict, upper),
+            Cell::Above { upper } => end_unless(!verdict, upper),
+            _ => None,
         }
-        Cell::Or { left, right } => {
-            let a = deadline_of(automaton, left as usize, verdict);
-            let b = deadline_of(automaton, right as usize, verdict);
-            combine(!verdict, a, b)
-        }
-        Cell::Inside { interval } => end_unless(verdict, interval.upper),
-        Cell::Outside { interval } => end_unless(!verdict, interval.upper),
-        Cell::AtMost { upper } => end_unless(verdict, upper),
-        Cell::Above { upper } => end_unless(!verdict, upper),
-        _ => None,
     }
 }

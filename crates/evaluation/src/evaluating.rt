@@ -1,12 +1,11 @@
 // A rule's automaton evaluated over a log, in memory that the caller lends.
 ghost use Rattle.std.specs.Prelude.{◌≡◌, ◌≤◌, length, MatchResult};
-ghost use Rattle.evaluation.specs.Soundness.{Sound};
 ghost use Rattle.evaluation.specs.Evaluations.{needed, Evaluated};
 ghost use Rattle.evaluation.specs.RuleEvaluations.{grades_for, memory_refusal, Refused, RuleEvaluated};
 
 use crate::automaton::Automaton;
 use crate::boundary::Boundary;
-use crate::passes::{backward, times_of};
+use crate::passes::backward;
 use crate::rows::{begin, fill};
 use logs::Log;
 use refusals::Refusal;
@@ -15,19 +14,18 @@ use scales::Scale;
 
 fn evaluate_tables<S: Scale, L: Log>(
     log: &L,
-    automaton: Automaton<'_>,
+    automaton: &Automaton<'_>,
     boundary: Boundary,
     grades: &mut [S],
     count: usize,
 )
-    requires sound { Sound automaton.cells.now automaton.locations.now }
     requires counted { count ≡ length (L.events log.now) }
-    requires fits { needed (L.events log.now) automaton.cells.now automaton.locations.now ≤ length grades.old }
-    ensures { Evaluated S.ops (L.events log.now) automaton.entry.cells.now automaton.entry.locations.now boundary grades.old grades.new }
+    requires fits { needed (L.events log.now) automaton.now.cells.now automaton.now.locations.now ≤ length grades.old }
+    ensures { Evaluated S.ops (L.events log.now) automaton.now.cells.now automaton.now.locations.now boundary grades.old grades.new }
 {
     let base = automaton.locations.len() * count;
     begin(boundary, automaton.locations, grades, count);
-    backward(log, automaton, &times_of(log), grades, count, base);
+    backward(log, automaton, grades, count);
     fill(grades, base, 2 * automaton.cells.len(), S::lowest());
 }
 
@@ -41,14 +39,11 @@ pub fn evaluate<S: Scale, L: Log>(
 ) -> Result<usize, Refusal>
     ensures { MatchResult result (λ n. RuleEvaluated S.ops rule.now (L.events log.now) boundary n grades.old grades.new) (λ e. Refused (memory_refusal (grades_for rule.now (L.events log.now)) (length grades.old)) e grades.old grades.new) }
 {
-    let automaton = Automaton {
-        cells: rule.cells(),
-        locations: rule.locations(),
-    };
+    let automaton = Automaton::of(rule);
     let count = log.count();
     if grades.len() < automaton.locations.len() * count + 2 * automaton.cells.len() {
         return Err(Refusal::MemoryTooShort);
     }
-    evaluate_tables(log, automaton, boundary, grades, count);
+    evaluate_tables(log, &automaton, boundary, grades, count);
     Ok(count)
 }

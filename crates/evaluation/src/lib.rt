@@ -11,6 +11,7 @@ mod passes;
 pub mod rows;
 mod segments;
 mod starts;
+mod turn;
 
 pub use boundary::Boundary;
 pub use evaluating::evaluate;

@@ -1,67 +1,61 @@
 // The events of a log, from the last to the first.
-ghost use Rattle.std.specs.Prelude.{◌≡◌, ℕ, suc, ◌+◌, ◌-◌, ◌*◌, ◌<◌, ◌≤◌, length};
-ghost use Rattle.evaluation.specs.Passes.{Laid, Turned, Timed, Rest, EventDone, EventsDone};
+ghost use Rattle.std.specs.Prelude.{◌≡◌, ◌+◌, ◌*◌, ◌≤◌, length};
+ghost use Rattle.evaluation.specs.Passes.{Timed, Rest, EventDone, EventsDone};
 
 use crate::automaton::Automaton;
-use crate::column::{Turn, column};
-use crate::rows::settle;
-use crate::starts::starts;
+use crate::turn::Turn;
 use logs::{Event, Log, event_of};
 use scales::Scale;
 
-// No log has more events.
-const MOST: usize = 512;
-
-// The time of each event, asked of the log once.
+// The time of each event, asked of the log once; no log has more than 512.
 pub(crate) fn times_of<L: Log>(log: &L) -> [u64; 512]
     ensures timed { Timed (L.events log.now) (length (L.events log.now)) result }
     ensures long { length result ≡ 512 }
 {
-    let mut times = [0; MOST];
-    for k in 0..log.count() {
-        times[k] = log.time(k + 1);
+    let mut times = [0; 512];
+    for (k, time) in times[..log.count()].iter_mut().enumerate() {
+        *time = log.time(k + 1);
     }
     times
 }
 
-// Event i, which is asked of the log once: first the cells whose start it is, which resets read, then every start before it.
-fn at_event<S: Scale, L: Log>(
-    log: &L,
-    automaton: Automaton<'_>,
-    times: &[u64],
-    grades: &mut [S],
-    turn: Turn,
-)
-    requires turned { Turned automaton.cells.now automaton.locations.now turn (length grades.old) }
-    requires timed { Timed (L.events log.now) turn.count times.now }
-    requires long { turn.count ≤ length times.now }
-    ensures done { EventDone S.ops (L.events log.now) automaton.entry.cells.now automaton.entry.locations.now turn.count turn.at grades.old grades.new }
-    ensures rest { Rest S.ops automaton.entry.cells.now automaton.entry.locations.now turn.base grades.old grades.new }
-{
-    let event = event_of(log, turn.at);
-    column(&event, automaton.cells, grades, turn);
-    starts(automaton, times, grades, turn);
-    settle(automaton.locations, grades, turn);
+impl Turn<'_> {
+    // The event, which is asked of the log once: first the cells whose start it is, which resets read, then every start before it.
+    fn at_event<S: Scale, L: Log>(&self, log: &L, grades: &mut [S])
+        requires timed { Timed (L.events log.now) self.now.count self.now.times.now }
+        requires fits { self.now.base + length self.now.automaton.cells.now ≤ length grades.old }
+        ensures done { EventDone S.ops (L.events log.now) self.now grades.old grades.new }
+        ensures rest { Rest S.ops self.now.base (length self.now.automaton.cells.now) grades.old grades.new }
+    {
+        let event = event_of(log, self.at);
+        self.column(&event, grades);
+        self.starts(grades);
+        self.settle(grades);
+    }
 }
 
 // From the last event to the first.
 pub(crate) fn backward<S: Scale, L: Log>(
     log: &L,
-    automaton: Automaton<'_>,
-    times: &[u64],
+    automaton: &Automaton<'_>,
     grades: &mut [S],
     count: usize,
-    base: usize,
 )
-    requires laid { Laid automaton.cells.now automaton.locations.now count base (length grades.old) }
-    requires timed { Timed (L.events log.now) count times.now }
-    requires long { count ≤ length times.now }
-    ensures done { EventsDone S.ops (L.events log.now) automaton.entry.cells.now automaton.entry.locations.now count 0 grades.old grades.new }
-    ensures rest { Rest S.ops automaton.entry.cells.now automaton.entry.locations.now base grades.old grades.new }
+    requires counted { count ≡ length (L.events log.now) }
+    requires fits { length automaton.now.locations.now * count + length automaton.now.cells.now ≤ length grades.old }
+    ensures done { EventsDone S.ops (L.events log.now) automaton.now.cells.now automaton.now.locations.now count 0 grades.old grades.new }
+    ensures rest { Rest S.ops (length automaton.now.locations.now * count) (length automaton.now.cells.now) grades.old grades.new }
 {
-    let mut at = count;
-    while at > 0 {
-        at_event(log, automaton, times, grades, Turn { at, count, base });
-        at -= 1;
+    let times = times_of(log);
+    let base = automaton.locations.len() * count;
+    for at in (1..=count).rev() {
+        let turn = Turn {
+            automaton: *automaton,
+            times: &times,
+            at,
+            count,
+            base,
+        };
+        turn.at_event(log, grades);
     }
 }

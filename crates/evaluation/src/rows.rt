@@ -1,42 +1,33 @@
 // The rows of memory: one for each location, with a place for each event.
-ghost use Rattle.std.specs.Prelude.{◌≡◌, ℕ, ◌+◌, ◌-◌, ◌*◌, ◌<◌, ◌≤◌, min, ◌++◌, length, drop, replicate, slice_index_or, slice_set};
-ghost use Rattle.evaluation.specs.Boundaries.{behind};
+ghost use Rattle.std.specs.Prelude.{◌≡◌, ℕ, ◌+◌, ◌*◌, ◌<◌, ◌≤◌, min, ◌++◌, length, drop, replicate};
 ghost use Rattle.evaluation.specs.Columns.{held_from, held, Framed};
-ghost use Rattle.evaluation.specs.Rows.{no_location, Rooted, Moved, Begun};
+ghost use Rattle.evaluation.specs.Rows.{Moved, Begun};
 
 use crate::boundary::Boundary;
-use crate::column::{Turn, place};
+use crate::turn::Turn;
 use scales::Scale;
 use tables::Location;
 
-// The place of location l and the turn's start becomes the grade of l's root.
-fn move_root<S: Scale>(locations: &[Location], grades: &mut [S], turn: Turn, l: usize)
-    requires rooted { Rooted turn locations.now (length grades.old) }
-    requires inside { l < length locations.now }
-    ensures { grades.new ≡ slice_set grades.old (l * turn.count + (turn.at - 1)) (held_from S.ops grades.old turn.base (slice_index_or locations.now l no_location).root) }
-{
-    let grade = grades[turn.base + locations[l].root as usize];
-    grades[place(l, turn.count, turn.at)] = grade;
-}
-
-// Moves the roots of a column that is graded whole to the places of its start.
-pub(crate) fn settle<S: Scale>(locations: &[Location], grades: &mut [S], turn: Turn)
-    requires { Rooted turn locations.now (length grades.old) }
-    ensures { Moved S.ops turn locations.now (length locations.now) grades.old grades.new }
-{
-    for l in 0..locations.len() {
-        move_root(locations, grades, turn, l);
+impl Turn<'_> {
+    // Moves the roots of a column that is graded whole to the places of its start.
+    pub(crate) fn settle<S: Scale>(&self, grades: &mut [S])
+        requires { self.now.base + length self.now.automaton.cells.now ≤ length grades.old }
+        ensures { Moved S.ops self.now (length self.now.automaton.locations.now) grades.old grades.new }
+    {
+        for (l, location) in self.automaton.locations.iter().enumerate() {
+            grades[self.place(l, self.at)] = grades[self.base + location.root as usize];
+        }
     }
 }
 
-// Writes a grade into k places from `at` on.
+// Writes a grade into k places from `at` on. `fill` of slices asks for a clone that cannot fail, which `Copy` does not promise.
 pub(crate) fn fill<S: Scale>(grades: &mut [S], at: usize, k: usize, grade: S)
     requires { at + k ≤ length grades.old }
     ensures wrote { (a : ℕ) → a < k → held_from S.ops grades.new at a ≡ grade }
     ensures framed { Framed S.ops at k grades.old grades.new }
 {
-    for a in 0..k {
-        grades[at + a] = grade;
+    for place in &mut grades[at..at + k] {
+        *place = grade;
     }
 }
 
@@ -52,9 +43,8 @@ pub(crate) fn begin<S: Scale>(
     requires fits { length locations.now * count ≤ length grades.old }
     ensures { Begun S.ops boundary locations.now count (length locations.now) grades.old grades.new }
 {
-    for l in 0..locations.len() {
-        let grade = boundary.grade(locations[l].is_final);
-        fill(grades, l * count, count, grade);
+    for (l, location) in locations.iter().enumerate() {
+        fill(grades, l * count, count, boundary.grade(location.is_final));
     }
 }
 

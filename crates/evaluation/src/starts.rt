@@ -1,13 +1,10 @@
 // The starts before an event, location by location.
-ghost use Rattle.std.specs.Prelude.{◌≡◌, ◌<◌, ◌≤◌, length, slice_index_or, slice_set};
+ghost use Rattle.std.specs.Prelude.{◌≡◌, ◌+◌, ◌<◌, ◌≤◌, length, slice_index_or, slice_set};
 ghost use Rattle.tables.specs.Intervals.{upper_of};
-ghost use Rattle.evaluation.specs.Soundness.{Sound};
-ghost use Rattle.evaluation.specs.Passes.{Turned, Deadline, Rising, RowDone, RowsDone};
+ghost use Rattle.evaluation.specs.Passes.{Deadline, RowDone, RowsDone};
 
-use crate::automaton::Automaton;
-use crate::column::{Turn, place};
-use crate::deadlines::deadline_of;
-use crate::segments::{Segment, segment_at};
+use crate::segments::Segment;
+use crate::turn::Turn;
 use scales::Scale;
 use tables::Location;
 use tables::interval::at_most;
@@ -17,69 +14,53 @@ fn move_start<S: Scale>(grades: &mut [S], at: usize, segment: Segment<S>)
     requires { at < length grades.old }
     ensures { grades.new ≡ slice_set grades.old at (S.ops.join (S.ops.meet (slice_index_or grades.old at S.ops.low) segment.high) segment.low) }
 {
-    let grade = grades[at].meet(segment.high).join(segment.low);
-    grades[at] = grade;
+    grades[at] = grades[at].meet(segment.high).join(segment.low);
 }
 
-// The deadline of a location at the turn's event. At the last event there is none, so that every start is graded once.
-fn row_deadline(automaton: Automaton<'_>, turn: Turn, location: usize) -> Option<u32>
-    requires sound { Sound automaton.cells.now automaton.locations.now }
-    requires there { location < length automaton.locations.now }
-    ensures { Deadline automaton.entry.cells.now automaton.entry.locations.now turn location (upper_of result) }
-{
-    if turn.at < turn.count {
-        let Location { root, is_final } = automaton.locations[location];
-        deadline_of(automaton, root as usize, is_final)
-    } else {
-        None
-    }
-}
-
-// The starts of a location, the latest first, until one is behind the location's deadline: it and all before it are
-// decided, and have stood so since the last event's turn.
-fn row_starts<S: Scale>(
-    automaton: Automaton<'_>,
-    times: &[u64],
-    grades: &mut [S],
-    turn: Turn,
-    location: usize,
-)
-    requires turned { Turned automaton.cells.now automaton.locations.now turn (length grades.old) }
-    requires there { location < length automaton.locations.now }
-    requires timed { turn.count ≤ length times.now }
-    requires rising { Rising turn.count times.now }
-    ensures { RowDone S.ops automaton.entry.cells.now automaton.entry.locations.now turn times.now location grades.old grades.new }
-{
-    let root = automaton.locations[location].root as usize;
-    let deadline = row_deadline(automaton, turn, location);
-    let mut segment = segment_at(automaton, grades, turn, 0, root);
-    let mut s = turn.at;
-    while s > 1 {
-        let clock = times[turn.at - 1].saturating_sub(times[s - 2]);
-        if !at_most(deadline, clock) {
-            return;
+impl Turn<'_> {
+    // The deadline of a location at the event. At the last event there is none, so that every start is graded once.
+    fn row_deadline(&self, location: usize) -> Option<u32>
+        requires { location < length self.now.automaton.locations.now }
+        ensures { Deadline self.now location (upper_of result) }
+    {
+        if self.at < self.count {
+            let Location { root, is_final } = self.automaton.locations[location];
+            self.automaton.deadline_of(root as usize, is_final)
+        } else {
+            None
         }
-        if !at_most(segment.horizon, clock) {
-            segment = segment_at(automaton, grades, turn, clock, root);
-        }
-        s -= 1;
-        move_start(grades, place(location, turn.count, s), segment);
     }
-}
 
-// The starts of every location but location 0, to which nothing jumps.
-pub(crate) fn starts<S: Scale>(
-    automaton: Automaton<'_>,
-    times: &[u64],
-    grades: &mut [S],
-    turn: Turn,
-)
-    requires turned { Turned automaton.cells.now automaton.locations.now turn (length grades.old) }
-    requires timed { turn.count ≤ length times.now }
-    requires rising { Rising turn.count times.now }
-    ensures { RowsDone S.ops automaton.entry.cells.now automaton.entry.locations.now turn times.now (length automaton.entry.locations.now) grades.old grades.new }
-{
-    for l in 1..automaton.locations.len() {
-        row_starts(automaton, times, grades, turn, l);
+    // The starts of a location, the latest first, until one is behind the location's deadline: it and all before it are
+    // decided, and have stood so since the last event's turn.
+    fn row_starts<S: Scale>(&self, grades: &mut [S], location: usize)
+        requires fits { self.now.base + length self.now.automaton.cells.now ≤ length grades.old }
+        requires there { location < length self.now.automaton.locations.now }
+        ensures { RowDone S.ops self.now location grades.old grades.new }
+    {
+        let root = self.automaton.locations[location].root as usize;
+        let deadline = self.row_deadline(location);
+        let mut segment = self.segment_at(grades, 0, root);
+        for s in (1..self.at).rev() {
+            let clock = self.times[self.at - 1].saturating_sub(self.times[s - 1]);
+            if !at_most(deadline, clock) {
+                return;
+            }
+            if !at_most(segment.horizon, clock) {
+                segment = self.segment_at(grades, clock, root);
+            }
+            move_start(grades, self.place(location, s), segment);
+        }
+    }
+
+    // The starts of every location but location 0, to which nothing jumps. By number: the loop reads no table, and a row is
+    // named by its location's number alone.
+    pub(crate) fn starts<S: Scale>(&self, grades: &mut [S])
+        requires { self.now.base + length self.now.automaton.cells.now ≤ length grades.old }
+        ensures { RowsDone S.ops self.now (length self.now.automaton.locations.now) grades.old grades.new }
+    {
+        for l in 1..self.automaton.locations.len() {
+            self.row_starts(grades, l);
+        }
     }
 }

@@ -1,8 +1,1 @@
-pub mod Places
-pub mod Columns
-pub mod RowMoves
-pub mod Grading
-pub mod Stages
-pub mod Evaluations
-pub mod Connections
-pub mod RuleRunning
+pub mod Grades

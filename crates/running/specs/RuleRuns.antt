@@ -1,23 +1,15 @@
 -- A rule's run and outlook, by what the rule says.
-use Rattle.std.specs.Prelude.{◌≡◌, ℕ, ◌+◌, ◌*◌, ◌<◌, ◌≤◌, true, List, ◌++◌, length, drop, replicate, slice_index_or}
+use Rattle.std.specs.Prelude.{◌≡◌, ℕ, ◌*◌, ◌<◌, ◌≤◌, List, ◌++◌, length, drop, replicate, slice_index_or}
 use Rattle.scales.specs.Scales.{Ops}
 use Rattle.logs.specs.declared.event.Event.{Event}
 use Rattle.semantics.specs.Words.{word}
-use Rattle.semantics.specs.Normals.{Normal, normal}
 use Rattle.semantics.specs.Cells.{table, entries}
 use Rattle.semantics.specs.Values.{run_value}
 use Rattle.rules.specs.declared.rule.Rule.{Rule}
 use Rattle.rules.specs.Rules.{form_of_rule}
-use Rattle.running.specs.Columns.{held, held_from}
+use Rattle.evaluation.specs.Columns.{held, held_from}
+pub use Rattle.evaluation.specs.RuleEvaluations.{normal_form, grades_for}
 use Rattle.running.specs.Tabulations.{RuleGraded, RuleForeseen}
-
--- the rule's normal form
-abbrev pub normal_form : Rule → Normal
-normal_form R = normal true (form_of_rule R)
-
--- the grades that a run over es needs: locations × events, and two a cell
-abbrev pub grades_for : Rule → List Event → ℕ
-grades_for R es = length (entries (normal_form R)) * length es + 2 * length (table (normal_form R))
 
 module _ {G : Type 0} (S : Ops G) (R : Rule) (es : List Event) where
   -- a run that answers n

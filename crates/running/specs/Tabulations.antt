@@ -1,23 +1,13 @@
--- Tables that are those of a normal form, and what the memory after a run then says of the rule.
+-- What the memory after a run, and an outlook, say of the rule.
 use Rattle.std.specs.Prelude.{◌≡◌, ℕ, suc, ◌<◌, ◌≤◌, true, List, length, slice_index_or}
 use Rattle.scales.specs.Scales.{Ops, AtMost}
 use Rattle.logs.specs.declared.event.Event.{Event}
 use Rattle.semantics.specs.Words.{word}
 use Rattle.semantics.specs.Forms.{Form, grade}
-use Rattle.semantics.specs.Normals.{Normal, top, normal, normal_grade, normal_forms, temporal_forms, waits}
-use Rattle.semantics.specs.Cells.{table, entries}
+use Rattle.semantics.specs.Normals.{top, normal, normal_grade, temporal_forms, waits}
 use Rattle.semantics.specs.Values.{floor, ceiling}
 use Rattle.semantics.specs.Continuations.{LawfulContinuation}
-use Rattle.tables.specs.declared.cell.Cell.{Cell}
-use Rattle.tables.specs.declared.cell.Location.{Location}
-use Rattle.tables.specs.CellTables.{cells_of, entries_of}
-use Rattle.running.specs.Columns.{held}
-
--- the cells and locations are those of the normal form's translation
-pub record Tabulates (N : Normal) (cells : List Cell) (locations : List Location) : Type 0 where
-  pub few : normal_forms N ≤ 64
-  pub cells_are : cells_of cells ≡ table N
-  pub locations_are : entries_of locations ≡ entries N
+use Rattle.evaluation.specs.Columns.{held}
 
 module _ {G : Type 0} (S : Ops G) (es : List Event) (f : Form) where
   -- location 0's row has the rule's grade at every event, and the row of each until and release that form's

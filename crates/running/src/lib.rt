@@ -1,11 +1,6 @@
 // A rule run over any log on any scale, and its outlook, in memory that the caller lends.
 #![tactic(auto)]
 
-pub mod boundary;
-mod column;
-mod evaluating;
-mod passes;
-mod rows;
 pub mod rule_runs;
 pub mod working_table;
 

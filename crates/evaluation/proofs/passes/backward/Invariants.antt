@@ -1,12 +1,8 @@
-use Rattle.std.proofs.Common.{◌≤◌}
+use Rattle.std.proofs.Common.{◌*◌, length}
 use Rattle.evaluation.specs.Passes.{EventsDone, Rest}
 use Rattle.evaluation.proofs.passes.backward.Given as goal
 
 abbrev pub invariant-loop-at : goal.invariant-loop-at
 invariant-loop-at g l =
-    (l.at ≤ l.count)
-    × EventsDone g.S.Scale.ops (g.L.Log.events l.log) l.automaton.cells.now l.automaton.locations.now l.count l.at l.initial.grades l.grades
-    × Rest g.S.Scale.ops l.automaton.cells.now l.automaton.locations.now l.base l.initial.grades l.grades
-
-abbrev pub decreases-loop-at : goal.decreases-loop-at
-decreases-loop-at g l = l.at
+    EventsDone g.S.Scale.ops (g.L.Log.events l.log) l.automaton.cells.now l.automaton.locations.now l.count l.at l.initial.grades l.grades
+    × Rest g.S.Scale.ops (length l.automaton.locations.now * l.count) (length l.automaton.cells.now) l.initial.grades l.grades

@@ -3,7 +3,7 @@ use Rattle.scales.specs.declared.doubt.Doubt.TheVariants.{No}
 use Rattle.semantics.specs.Normals.{normal}
 use Rattle.semantics.specs.Cells.{entries}
 use Rattle.rules.specs.Rules.{form_of_rule}
-use Rattle.running.proofs.Places.{row_fits}
+use Rattle.evaluation.proofs.Places.{row_fits}
 use Rattle.reporting.proofs.Lengths.{listed_same}
 use Rattle.reporting.proofs.delivery.graded_listing.Goals as goal
 

@@ -1,8 +1,0 @@
-use Rattle.std.proofs.Common.{◌≤◌, length, sym, rules}
-use Rattle.std.proofs.lemmas.List.{get_or_past}
-use Rattle.evaluation.proofs.column.reading.Goals as goal
-
-pub returns-else-fact-lt16 : goal.returns-else-fact-lt16
-returns-else-fact-lt16 c =
-    let past : length c.args.event.now.readings ≤ c.args.fact = search rules in
-    sym (get_or_past c.args.event.now.readings c.args.fact 0 past)

@@ -1,4 +1,0 @@
-use Rattle.evaluation.proofs.deadlines.+deadline_of.Given as goal
-
-abbrev pub decreases-deadline_of : goal.decreases-deadline_of
-decreases-deadline_of l = l.k

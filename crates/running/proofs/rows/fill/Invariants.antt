@@ -1,8 +1,0 @@
-use Rattle.std.proofs.Common.{◌≡◌, ℕ, ◌<◌}
-use Rattle.running.specs.Columns.{held_from, Framed}
-use Rattle.running.proofs.rows.fill.Given as goal
-
-abbrev pub invariant-loop-a : goal.invariant-loop-a
-invariant-loop-a g l =
-    ((a : ℕ) → a < l.a → held_from g.S.Scale.ops l.grades l.at a ≡ l.grade)
-    × Framed g.S.Scale.ops l.at l.a l.initial.grades l.grades
