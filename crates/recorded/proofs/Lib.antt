@@ -5,7 +5,5 @@ pub mod Growth
 pub mod Places
 pub mod Fronts
 pub mod Looks
-pub mod SeveralCalls
-pub mod SeveralPlays
-pub mod SeveralGrowth
+pub mod Played
 pub mod Openings

@@ -1,5 +1,5 @@
 use logs::Event;
-use recorded::several::{Answer, Call, replay};
+use recorded::{Answer, Call, replay};
 use refusals::Refusal;
 use rules::Rule;
 use running::WorkingTable;
