@@ -3,4 +3,5 @@ pub mod Closed
 pub mod Opened
 pub mod Calls
 pub mod Replays
-pub mod Behind
+pub mod Onward
+pub mod Answers
