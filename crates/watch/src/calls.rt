@@ -1,4 +1,4 @@
-use logs::Event;
+use logs::{Event, MOST_EVENTS};
 use std::str::SplitWhitespace;
 
 // A line of `calls.txt`.
@@ -65,10 +65,10 @@ pub(crate) fn parsed(line: &str) -> Option<Call> {
     }
 }
 
-// How many places the first line asks for; no log has more than 512 events.
+// As many places as the first line asks for, and no more than a log has events at most.
 pub(crate) fn places(text: &str) -> usize {
     match text.lines().next().and_then(parsed) {
-        Some(Call::Places { count }) => count.min(512),
-        _ => 512,
+        Some(Call::Places { count }) => count.min(MOST_EVENTS),
+        _ => MOST_EVENTS,
     }
 }
