@@ -5,18 +5,11 @@ use std::str::SplitWhitespace;
 #[derive(Drop)]
 pub(crate) enum Call {
     // `places N`: how many events the log has room for, 512 where no line says so
-    Places {
-        count: usize,
-    },
+    Places { count: usize },
     // `offer TIME a=READING b=READING ..`, facts that are not named reading 0
-    Offer {
-        event: Event,
-    },
+    Offer { event: Event },
     // `outlook EVENT GRADES`, with so many grades of memory, or `outlook EVENT`, with as much as is needed
-    Outlook {
-        event: usize,
-        grades: Option<usize>,
-    },
+    Outlook { event: usize, grades: Option<usize> },
 }
 
 // The number of a fact and its reading, as `c=200`.
