@@ -1,11 +1,7 @@
 pub mod Recording
-pub mod Offers
 pub mod Plays
 pub mod Growth
 pub mod Places
 pub mod Fronts
 pub mod Looks
-pub mod SeveralCalls
-pub mod SeveralPlays
-pub mod SeveralGrowth
-pub mod Openings
+pub mod Played

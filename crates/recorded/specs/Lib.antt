@@ -1,7 +1,7 @@
 pub mod Books
 pub mod Closed
 pub mod Opened
+pub mod Calls
 pub mod Replays
-pub mod Behind
-pub mod SeveralCalls
-pub mod SeveralReplays
+pub mod Onward
+pub mod Answers

@@ -1,5 +1,5 @@
 use logs::Event;
-use recorded::several::{Answer, Call, replay};
+use recorded::{Answer, Call, Declined, Outcome, replay};
 use refusals::Refusal;
 use rules::Rule;
 use running::WorkingTable;
@@ -55,17 +55,17 @@ fn calls() -> [Call; 14] {
 
 fn answered<S: Scale>(rt: &HostRuntime, answer: Answer<S>) -> anyhow::Result<()> {
     match answer {
-        Answer::Accepted => println!(rt; "  accepted")?,
-        Answer::Seen { floor, ceiling } => {
+        Ok(Outcome::Accepted) => println!(rt; "  accepted")?,
+        Ok(Outcome::Seen { floor, ceiling }) => {
             let low = floor.shown();
             let high = ceiling.shown();
             println!(rt; "  seen {low} {high}")?;
         }
-        Answer::TurnedDown { reason } => {
+        Err(Declined::TurnedDown(reason)) => {
             let number = reason.number();
             println!(rt; "  refused {number}")?;
         }
-        Answer::RuleAbsent => println!(rt; "  no such rule")?,
+        Err(Declined::RuleAbsent) => println!(rt; "  no such rule")?,
     }
     Ok(())
 }
@@ -115,7 +115,7 @@ fn played<S: Scale + Clone>(
         return Ok(());
     };
     let mut places = vec![in rt.alloc(); event(9, 9, 9); places]?;
-    let mut answers = vec![in rt.alloc(); Answer::Accepted; calls.len()]?;
+    let mut answers = vec![in rt.alloc(); Ok(Outcome::Accepted); calls.len()]?;
     let mut grades = vec![in rt.alloc(); S::highest(); length]?;
     let mut table = WorkingTable {
         grades: grades.as_mut_slice(),

@@ -1,4 +1,5 @@
-use logs::Event;
+use logs::{Event, MOST_EVENTS};
+use std::str::SplitWhitespace;
 
 // A line of `calls.txt`.
 #[derive(Drop)]
@@ -7,92 +8,60 @@ pub(crate) enum Call {
     Places { count: usize },
     // `offer TIME a=READING b=READING ..`, facts that are not named reading 0
     Offer { event: Event },
-    // `outlook EVENT`, with as much memory as is needed
-    Outlook { event: usize },
-    // `outlook EVENT GRADES`, with so many grades of memory
-    OutlookIn { event: usize, grades: usize },
-    // anything else
-    Unreadable,
+    // `outlook EVENT GRADES`, with so many grades of memory, or `outlook EVENT`, with as much as is needed
+    Outlook { event: usize, grades: Option<usize> },
 }
 
-// A reading, as `c=200`, put among those that stand there.
-fn read(word: &str, readings: &mut [u8; 16]) -> bool {
-    let Some((fact, reading)) = word.split_once('=') else {
-        return false;
+// The number of a fact and its reading, as `c=200`.
+fn reading(word: &str) -> Option<(usize, u8)> {
+    let (fact, reading) = word.split_once('=')?;
+    let [letter] = fact.as_bytes() else {
+        return None;
     };
-    let Ok(reading) = reading.parse::<u8>() else {
-        return false;
-    };
-    match fact.as_bytes() {
-        [letter] => {
-            let place = letter.wrapping_sub(b'a') as usize;
-            if place < 16 {
-                readings[place] = reading;
-                true
-            } else {
-                false
-            }
-        }
-        _ => false,
-    }
+    let fact = letter.checked_sub(b'a')?;
+    Some((usize::from(fact), reading.parse().ok()?))
 }
 
-fn offer(line: &str) -> Call {
-    let mut readings = [0u8; 16];
-    let mut time = None;
-    for word in line.split_whitespace().skip(1) {
-        match time {
-            None => match word.parse::<u64>() {
-                Ok(number) => time = Some(number),
-                Err(_) => return Call::Unreadable,
-            },
-            Some(_) => {
-                if !read(word, &mut readings) {
-                    return Call::Unreadable;
-                }
-            }
-        }
+// What an offer says behind its name.
+fn event(mut words: SplitWhitespace<'_>) -> Option<Event> {
+    let time = words.next()?.parse().ok()?;
+    let mut readings = [0; 16];
+    for word in words {
+        let (fact, reading) = reading(word)?;
+        *readings.get_mut(fact)? = reading;
     }
-    match time {
-        Some(time) => Call::Offer {
-            event: Event { time, readings },
-        },
-        None => Call::Unreadable,
-    }
+    Some(Event { time, readings })
 }
 
 fn number(word: Option<&str>) -> Option<usize> {
-    match word?.parse::<usize>() {
-        Ok(number) => Some(number),
-        Err(_) => None,
-    }
+    word?.parse().ok()
 }
 
-pub(crate) fn parsed(line: &str) -> Call {
+// The call of a line, if it is one.
+pub(crate) fn parsed(line: &str) -> Option<Call> {
     let mut words = line.split_whitespace();
-    let Some(name) = words.next() else {
-        return Call::Unreadable;
-    };
+    let name = words.next()?;
     if name == "offer" {
-        return offer(line);
+        return Some(Call::Offer {
+            event: event(words)?,
+        });
     }
-    let first = number(words.next());
+    let first = number(words.next())?;
     let second = number(words.next());
-    match (name, first, second) {
-        ("places", Some(count), None) => Call::Places { count },
-        ("outlook", Some(event), None) => Call::Outlook { event },
-        ("outlook", Some(event), Some(grades)) => Call::OutlookIn { event, grades },
-        _ => Call::Unreadable,
+    match (name, second) {
+        ("places", None) => Some(Call::Places { count: first }),
+        ("outlook", grades) => Some(Call::Outlook {
+            event: first,
+            grades,
+        }),
+        _ => None,
     }
 }
 
-// How many places the first line asks for; no log has more than 512 events.
+// As many places as the first line asks for, and no more than a log has events at most.
 pub(crate) fn places(text: &str) -> usize {
-    match text.lines().next() {
-        Some(line) => match parsed(line) {
-            Call::Places { count } => count.min(512),
-            _ => 512,
-        },
-        None => 512,
+    match text.lines().next().and_then(parsed) {
+        Some(Call::Places { count }) => count.min(MOST_EVENTS),
+        _ => MOST_EVENTS,
     }
 }
