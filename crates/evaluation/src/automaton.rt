@@ -1,5 +1,5 @@
 // The automaton of a rule, as tables.
-ghost use Rattle.std.specs.Prelude.{◌≡◌};
+ghost use Rattle.std.specs.Prelude.{◌≡◌, ◌≤◌, length};
 ghost use Rattle.rules.specs.Rules.{rule_cells, rule_locations};
 
 use rules::Rule;
@@ -13,6 +13,8 @@ pub(crate) struct Automaton<'a> {
     pub(crate) locations: &'a [Location],
     ghost celled: { cells.now ≡ rule_cells rule.now },
     ghost located: { locations.now ≡ rule_locations rule.now },
+    ghost few_cells: { length cells.now ≤ 577 },
+    ghost few_locations: { length locations.now ≤ 65 },
 }
 
 impl<'a> Automaton<'a> {

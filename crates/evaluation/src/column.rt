@@ -1,6 +1,5 @@
 // The column of an event: the grade of every cell whose start is that event.
 ghost use Rattle.std.specs.Prelude.{◌≡◌, ◌+◌, ◌≤◌, length};
-ghost use Rattle.logs.specs.Logs.{reading_of};
 ghost use Rattle.evaluation.specs.Columns.{graded_by, Reach, Graded, Framed};
 
 use crate::boundary::of_test;
@@ -9,16 +8,6 @@ use logs::Event;
 use scales::Scale;
 use tables::Cell;
 use tables::interval::at_most;
-
-fn reading(event: &Event, fact: u8) -> u8
-    ensures { result ≡ reading_of event.now fact }
-{
-    if fact < 16 {
-        event.readings[fact as usize]
-    } else {
-        0
-    }
-}
 
 impl Turn<'_> {
     // The clock reads 0, and a reset leaves it so.
@@ -29,8 +18,8 @@ impl Turn<'_> {
         match cell {
             Cell::Accept => S::highest(),
             Cell::Reject => S::lowest(),
-            Cell::Holds { fact } => S::of_reading(reading(event, fact)),
-            Cell::Fails { fact } => S::of_reading(reading(event, fact)).opposite(),
+            Cell::Holds { fact } => S::of_reading(event.reading(fact)),
+            Cell::Fails { fact } => S::of_reading(event.reading(fact)).opposite(),
             Cell::And { left, right } => grades[self.base + left as usize].meet(
                 grades[self.base + right as usize],
             ),

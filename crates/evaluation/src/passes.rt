@@ -4,15 +4,15 @@ ghost use Rattle.evaluation.specs.Passes.{Timed, Rest, EventDone, EventsDone};
 
 use crate::automaton::Automaton;
 use crate::turn::Turn;
-use logs::{Event, Log, event_of};
+use logs::{Log, MOST_EVENTS, event_of};
 use scales::Scale;
 
-// The time of each event, asked of the log once; no log has more than 512.
-pub(crate) fn times_of<L: Log>(log: &L) -> [u64; 512]
+// The time of each event, asked of the log once.
+pub(crate) fn times_of<L: Log>(log: &L) -> [u64; MOST_EVENTS]
     ensures timed { Timed (L.events log.now) (length (L.events log.now)) result }
     ensures long { length result ≡ 512 }
 {
-    let mut times = [0; 512];
+    let mut times = [0; MOST_EVENTS];
     for (k, time) in times[..log.count()].iter_mut().enumerate() {
         *time = log.time(k + 1);
     }
