@@ -1,5 +1,6 @@
-ghost use Rattle.std.specs.Prelude.{◌≡◌};
-ghost use Rattle.normalizing.specs.Shapes.{constant_of, literal_of, step_of, lattice_of, waiting_of, shape_of, leaf_node, step_node, joint_node};
+ghost use Rattle.std.specs.Prelude.{◌≡◌, cond};
+ghost use Rattle.normalizing.specs.Duals.{leaf_dual, leaf_twice, step_dual, step_twice, joint_dual, joint_twice};
+ghost use Rattle.normalizing.specs.Shapes.{shape_of, leaf_node, step_node, joint_node};
 
 use tables::{Interval, Node, NormalNode};
 
@@ -56,46 +57,64 @@ pub enum Shape {
     },
 }
 
-fn constant(high: bool) -> Leaf
-    ensures { result ≡ constant_of high }
-{
-    if high { Leaf::Top } else { Leaf::Bottom }
+// What becomes another thing of its kind in an opposite, and itself again in the opposite of that.
+trait Dual: Copy {
+    ghost dual_of: { Self → Self };
+
+    ghost twice: { (x : Self) → dual_of (dual_of x) ≡ x };
+
+    fn dual(self) -> Self
+        ensures { result ≡ dual_of self };
 }
 
-fn literal(positive: bool, fact: u8) -> Leaf
-    ensures { result ≡ literal_of positive fact }
-{
-    if positive {
-        Leaf::Fact { fact }
-    } else {
-        Leaf::Opposed { fact }
+impl Dual for Leaf {
+    ghost dual_of = { leaf_dual };
+
+    ghost twice = { leaf_twice };
+
+    fn dual(self) -> Leaf {
+        match self {
+            Leaf::Top => Leaf::Bottom,
+            Leaf::Bottom => Leaf::Top,
+            Leaf::Fact { fact } => Leaf::Opposed { fact },
+            Leaf::Opposed { fact } => Leaf::Fact { fact },
+        }
     }
 }
 
-fn stepping(next: bool, interval: Interval) -> Step
-    ensures { result ≡ step_of next interval }
-{
-    if next {
-        Step::Next { interval }
-    } else {
-        Step::DualNext { interval }
+impl Dual for Step {
+    ghost dual_of = { step_dual };
+
+    ghost twice = { step_twice };
+
+    fn dual(self) -> Step {
+        match self {
+            Step::Next { interval } => Step::DualNext { interval },
+            Step::DualNext { interval } => Step::Next { interval },
+        }
     }
 }
 
-fn lattice(both: bool) -> Joint
-    ensures { result ≡ lattice_of both }
-{
-    if both { Joint::Both } else { Joint::Either }
+impl Dual for Joint {
+    ghost dual_of = { joint_dual };
+
+    ghost twice = { joint_twice };
+
+    fn dual(self) -> Joint {
+        match self {
+            Joint::Both => Joint::Either,
+            Joint::Either => Joint::Both,
+            Joint::Until { interval } => Joint::Release { interval },
+            Joint::Release { interval } => Joint::Until { interval },
+        }
+    }
 }
 
-fn waiting(until: bool, interval: Interval) -> Joint
-    ensures { result ≡ waiting_of until interval }
+// As it is, or, in an opposite, its dual.
+fn signed<D: Dual>(part: D, positive: bool) -> D
+    ensures { result ≡ cond positive part (D.dual_of part) }
 {
-    if until {
-        Joint::Until { interval }
-    } else {
-        Joint::Release { interval }
-    }
+    if positive { part } else { part.dual() }
 }
 
 // The opposite goes inwards: each operator becomes its dual, and keeps its interval.
@@ -104,49 +123,49 @@ pub fn shaped(node: Node, positive: bool) -> Shape
 {
     match node {
         Node::Top => Shape::Leaf {
-            leaf: constant(positive),
+            leaf: signed(Leaf::Top, positive),
         },
         Node::Bottom => Shape::Leaf {
-            leaf: constant(!positive),
+            leaf: signed(Leaf::Bottom, positive),
         },
         Node::Fact { fact } => Shape::Leaf {
-            leaf: literal(positive, fact),
+            leaf: signed(Leaf::Fact { fact }, positive),
         },
         Node::Opposite { inner } => Shape::Turned { inner },
         Node::Both { left, right } => Shape::Joined {
-            joint: lattice(positive),
+            joint: signed(Joint::Both, positive),
             left,
             left_positive: positive,
             right,
         },
         Node::Either { left, right } => Shape::Joined {
-            joint: lattice(!positive),
+            joint: signed(Joint::Either, positive),
             left,
             left_positive: positive,
             right,
         },
         Node::Implies { left, right } => Shape::Joined {
-            joint: lattice(!positive),
+            joint: signed(Joint::Either, positive),
             left,
             left_positive: !positive,
             right,
         },
         Node::Next { interval, inner } => Shape::Stepped {
-            step: stepping(positive, interval),
+            step: signed(Step::Next { interval }, positive),
             inner,
         },
         Node::DualNext { interval, inner } => Shape::Stepped {
-            step: stepping(!positive, interval),
+            step: signed(Step::DualNext { interval }, positive),
             inner,
         },
         Node::Eventually { interval, inner } => Shape::Waiting {
-            joint: waiting(positive, interval),
-            leaf: constant(positive),
+            joint: signed(Joint::Until { interval }, positive),
+            leaf: signed(Leaf::Top, positive),
             inner,
         },
         Node::Always { interval, inner } => Shape::Waiting {
-            joint: waiting(!positive, interval),
-            leaf: constant(!positive),
+            joint: signed(Joint::Release { interval }, positive),
+            leaf: signed(Leaf::Bottom, positive),
             inner,
         },
         Node::Until {
@@ -154,7 +173,7 @@ pub fn shaped(node: Node, positive: bool) -> Shape
             left,
             right,
         } => Shape::Joined {
-            joint: waiting(positive, interval),
+            joint: signed(Joint::Until { interval }, positive),
             left,
             left_positive: positive,
             right,
@@ -164,7 +183,7 @@ pub fn shaped(node: Node, positive: bool) -> Shape
             left,
             right,
         } => Shape::Joined {
-            joint: waiting(!positive, interval),
+            joint: signed(Joint::Release { interval }, positive),
             left,
             left_positive: positive,
             right,

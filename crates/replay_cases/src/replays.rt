@@ -142,11 +142,5 @@ pub(crate) fn run<S: Scale + Clone>(
     length: usize,
 ) -> anyhow::Result<()> {
     println!(rt; "{name}")?;
-    match rules() {
-        Ok(rules) => played::<S>(rt, &rules, &calls(), places, length),
-        Err(_) => {
-            println!(rt; "no rule")?;
-            Ok(())
-        }
-    }
+    played::<S>(rt, &rules()?, &calls(), places, length)
 }
