@@ -1,118 +1,132 @@
 #!/usr/bin/env python3
 """Counts the places in crates/*/src that read like an older Rattle, point by point.
 
-    python3 tools/places.py [COMMIT]      counts, and each place, of a commit or of the tree as it stands
+    python3 tools/places.py [COMMIT]      counts and lists them, of a commit or of the tree as it stands
 
-A match is a place to look at; docs/DESIGN-PASS.md says of each what became of it.
+A match is a place to look at; docs/DESIGN-PASS.md says of each what became of it. Point 8, proofs, is counted in lines.
 """
 import collections
-import glob
 import re
 import subprocess
 import sys
 
-
-def sources(commit):
-    if commit is None:
-        for path in sorted(glob.glob("crates/*/src/**/*.rt", recursive=True)):
-            yield path, open(path).read()
-        return
-    listed = subprocess.run(["git", "ls-tree", "-r", "--name-only", commit, "crates"], capture_output=True, text=True, check=True)
-    for path in sorted(listed.stdout.split()):
-        if "/src/" in path and path.endswith(".rt"):
-            yield path, subprocess.run(["git", "show", f"{commit}:{path}"], capture_output=True, text=True, check=True).stdout
-
-
-PATTERNS = {
+# What a line shows, point by point.
+LINES = {
     "1 own shapes of Option and Result, flags, number codes": [
-        r"^ +(TurnedDown|RuleAbsent|Unreadable|OutlookIn|Nothing)\b[^:]*[,{]$",
+        r"^ +(TurnedDown \{|RuleAbsent,|Unreadable,|OutlookIn \{)",
+        r"pub struct Checked\b",
         r"fn \w+\([^)]*&mut[^)]*\) -> bool",
-        r"=> \d+,$",
-        r"return (false|None);",
-        r"\w+: &str\) -> anyhow",
-        r"struct Checked\b",
-    ],
-    "3 loops that count an index or gather by hand": [
-        r"while \w+ [<>]=? ",
-        r"for \w+ in \d+\w*\.\.[\w.&]*\.len\(\)",
-        r"for \w+ in 0\.\.k\b",
-        r"for \w+ in 0\.\.\w+\.count\(\)",
-        r"for fact in 0\.\.16u8",
-        r"^ +\w+ = \w+ && ",
-        r"^ +count \+= 1;",
-        r"^ +(same|untouched) = false;",
-        r"for node in nodes \{",
+        r"fn answer\(text: &\[u8\]\) -> u8",
+        r"Refusal::RuleLength => \d",
+        r"Err\(\w+\) => (Answer::TurnedDown|Err\()",
+        r"Err\(_\) => \{$",
+        r"else \{ None \}$",
     ],
     "4 equality, order, conversion and printing by hand": [
-        r"fn \w+\([^)]*\) -> &'static str",
-        r"fn (number|of_leaf|plain)\(",
         r"fn of\(sign",
-        r"\(Doubt::\w+, \w+(::\w+)?\) =>",
-        r"Plain::\w+ => (other|Plain::\w+),$",
-        r"self\.value\.(max|min)",
-        r"\.shown\(\) == ",
+        r"fn (of_leaf|plain)\((leaf|sign)",
+        r"fn number\(self\)",
+        r"fn words?\(.*-> &'static str",
         r"fn write_number",
+        r"\.shown\(\) == ",
+        r"\(Doubt::No, (b|_)\) =>",
+        r"Plain::(No|Yes) => other,$",
+        r"value: self\.value\.(max|min)",
     ],
-    "6 buffers with a length beside, parallel arrays, arenas": [
-        r"^ +(pub )?len: usize,$",
-        r"(left|right|inner|cell): (usize|u16)\b",
-        r"\[u64; 512\]|\[u8; N\]|items: \[T; N\]",
+    "6 buffers with a length beside, arenas of numbers": [
+        r"^ +len: usize,$",
+        r"-> \[u64; \w+\]",
+        r"^    pub count: usize,$",
+        r"^pub enum (Node|NormalNode|Cell)\b",
     ],
     "7 switches on which step to run": [
-        r"fn \w+\((both|high|next|until|positive|verdict|holds): bool",
+        r"fn \w+\(\w*: bool",
         r", scale: &str",
-        r"match scale \{",
     ],
 }
 
-FUNCTION = re.compile(r"^\s*(?:pub(?:\(crate\))? )?fn (\w+)")
-CLAUSE = re.compile(r"^\s*(?:requires|ensures|ghost)\s*(\w+)?\s*[:=]?\s*\{ (.*) \}[,;]?\s*$")
+# Loops: by hand where a number is counted, or where the counter of a `for` names an item.
+COUNTED = [r"while \w+ [<>]=? ", r"^ +(\w+) = \1 && ", r"^ +(same|untouched) = false;", r"^ +count \+= 1;"]
+FOR = re.compile(r"^( *)for (\w+) in (.+) \{$")
+
+FUNCTION = re.compile(r"^\s*(?:pub(?:\(crate\))? )?(?:fn|struct|trait) (\w+)")
+CLAUSE = re.compile(r"^\s*(?:requires|ensures)\s*\w*\s*\{ (.*) \}[,;]?\s*$")
+
+
+def text_of(commit, path):
+    if commit is None:
+        return open(path).read()
+    return subprocess.run(["git", "show", f"{commit}:{path}"], capture_output=True, text=True, check=True).stdout
+
+
+def paths(commit, ending):
+    tree = ["git", "ls-files", "crates"] if commit is None else ["git", "ls-tree", "-r", "--name-only", commit, "crates"]
+    return sorted(p for p in subprocess.run(tree, capture_output=True, text=True, check=True).stdout.split() if p.endswith(ending))
+
+
+def by_hand(lines, at):
+    """Whether the loop at a line counts, or names items by its counter."""
+    if any(re.search(p, lines[at]) for p in COUNTED):
+        return True
+    loop = FOR.match(lines[at])
+    if not loop:
+        return False
+    indent, counter, over = loop.groups()
+    body = []
+    for line in lines[at + 1:]:
+        if line == indent + "}":
+            break
+        body.append(line)
+    inside = "\n".join(body)
+    if ".." not in over:
+        return "return false;" in inside
+    if ".len()" in over:
+        return True
+    named = {counter} | set(re.findall(r"let (\w+) = " + counter + r" \+ 1;", inside))
+    return any(re.search(r"\[[^\]]*\b" + n + r"\b", inside) for n in named) or f"let event = {counter} + 1;" in inside
 
 
 def main():
     commit = sys.argv[1] if len(sys.argv) > 1 else None
-    files = list(sources(commit))
-    for point, patterns in PATTERNS.items():
-        found = []
-        for path, text in files:
-            for number, line in enumerate(text.split("\n"), 1):
-                if line.lstrip().startswith("//"):
-                    continue
+    files = [(p, text_of(commit, p).split("\n")) for p in paths(commit, ".rt") if "/src/" in p]
+    found = collections.defaultdict(list)
+    for path, lines in files:
+        for at, line in enumerate(lines):
+            if line.lstrip().startswith("//"):
+                continue
+            place = f"  {path}:{at + 1}: {line.strip()[:100]}"
+            for point, patterns in LINES.items():
                 if any(re.search(p, line) for p in patterns):
-                    found.append(f"  {path}:{number}: {line.strip()[:100]}")
-        print(f"{point}: {len(found)}")
-        print("\n".join(found))
+                    found[point].append(place)
+            if by_hand(lines, at):
+                found["3 loops that count or index by hand"].append(place)
 
-    # 2: functions and types that stand under one name in two files of the libraries
     names = collections.defaultdict(set)
-    for path, text in files:
-        for line in text.split("\n"):
-            m = re.match(r"^(?:pub(?:\(crate\))? )?(?:fn|struct|enum) (\w+)", line)
-            if m:
-                names[m.group(1)].add(path)
-    twins = {n: p for n, p in names.items() if len(p) > 1 and n != "main"}
-    print(f"2 functions and types of one name in two files: {len(twins)}")
-    for n, paths in sorted(twins.items()):
-        print(f"  {n}: {' '.join(sorted(paths))}")
-
-    # 5: facts that stand in three contracts or types and more
     facts = collections.defaultdict(set)
-    for path, text in files:
-        function = "?"
-        for line in text.split("\n"):
-            m = FUNCTION.match(line)
-            if m:
-                function = m.group(1)
-            m = re.match(r"^\s*(?:pub )?(?:struct|trait) (\w+)", line)
-            if m:
-                function = m.group(1)
-            m = CLAUSE.match(line)
-            if m:
-                facts[re.sub(r"\s+", " ", m.group(2))].add(f"{path}:{function}")
-    often = {f: p for f, p in facts.items() if len(p) > 2}
-    print(f"5 facts in three contracts and more: {len(often)}")
-    for f, paths in sorted(often.items(), key=lambda x: -len(x[1])):
-        print(f"  {len(paths)}: {f[:120]}")
+    for path, lines in files:
+        holder = "?"
+        for line in lines:
+            item = re.match(r"^(?:pub(?:\(crate\))? )?(?:fn|struct|enum) (\w+)", line)
+            if item and item.group(1) != "main":
+                names[item.group(1)].add(path)
+            if FUNCTION.match(line):
+                holder = FUNCTION.match(line).group(1)
+            clause = CLAUSE.match(line)
+            if clause:
+                facts[clause.group(1)].add(f"{path}:{holder}")
+    for name, where in sorted(names.items()):
+        if len(where) > 1:
+            found["2 functions and types of one name in two files"].append(f"  {name}: {' '.join(sorted(where))}")
+    for fact, where in sorted(facts.items(), key=lambda x: -len(x[1])):
+        if len(where) > 2:
+            found["5 facts in three contracts and more"].append(f"  {len(where)}: {fact[:120]}")
+
+    proofs = [p for p in paths(commit, ".antt") if "/proofs/" in p]
+    lines = sum(text_of(commit, p).count("\n") for p in proofs)
+    for point, places in sorted(found.items()):
+        print(f"{point}: {len(places)}")
+        print("\n".join(places))
+    print(f"8 proofs: {len(proofs)} files, {lines} lines")
 
 
 main()
