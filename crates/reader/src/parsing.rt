@@ -14,7 +14,7 @@ use tables::{Interval, Node};
 
 const LONGEST: usize = 1024;
 
-// The node of a form of one symbol.
+// The node of a form of one symbol, if it is one; the caller's next thing to try, so no error to read.
 fn plain(sign: char) -> Option<Node>
     ensures { MatchOption result ((f : meaning.Form) → Plain sign f → ⊥) (λ n. Leaf sign n) }
 {
