@@ -10,10 +10,9 @@ use Rattle.translation.specs.declared.clauses.Duality.{Duality}
 use Rattle.translation.specs.declared.clauses.Duality.TheVariants.{Plain, Dual}
 use Rattle.translation.specs.Duals.{inner_of, outer_of, window_of, deadline_of, final_of}
 
--- there is room for k cells, a location and a root more
+-- there is room for k cells and a root more
 pub record Room (B : Built) (k : ℕ) : Type 0 where
   pub cells : length B.cells + k ≤ 577
-  pub entries : length B.entries < 65
   pub roots : length B.roots < 64
 
 -- location 0 alone

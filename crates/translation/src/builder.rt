@@ -69,6 +69,7 @@ impl Builder {
     // The cells of a normal form that has one; its location's root is cell `root` of these, and the last is its own.
     fn timed(&mut self, cells: &[Cell], root: u16, is_final: bool)
         requires room { Room self.old (length cells.now) }
+        requires location { length self.old.entries < 65 }
         requires there { root < length cells.now }
         ensures { self.new ≡ timed_added self.old (cells_of cells.now) root is_final }
     {
@@ -84,6 +85,7 @@ impl Builder {
     // A next, or its dual.
     fn next(&mut self, duality: Duality, interval: Interval, inner: usize)
         requires room { Room self.old 5 }
+        requires location { length self.old.entries < 65 }
         requires there { inner < length self.old.roots }
         ensures { self.new ≡ next_added self.old duality (interval_of interval) inner }
     {
@@ -96,6 +98,7 @@ impl Builder {
     // An until, or its dual.
     fn until(&mut self, duality: Duality, interval: Interval, left: usize, right: usize)
         requires room { Room self.old 9 }
+        requires location { length self.old.entries < 65 }
         requires left { left < length self.old.roots }
         requires right { right < length self.old.roots }
         ensures { self.new ≡ until_added self.old duality (interval_of interval) left right }
@@ -110,6 +113,7 @@ impl Builder {
     // The cells and the location of one normal form more.
     pub fn add(&mut self, node: NormalNode)
         requires room { Room self.old 9 }
+        requires location { length self.old.entries < 65 }
         requires earlier { NormalBelow (length self.old.roots) node }
         ensures { self.new ≡ write self.old node }
     {

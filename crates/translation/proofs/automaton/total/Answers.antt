@@ -1,7 +1,6 @@
-use Rattle.std.proofs.Common.{◌+◌, get_or, take, sym, ap, ◌∙◌, ap₂, arith}
-use Rattle.std.proofs.lemmas.List.{take_all, length-take-le}
+use Rattle.std.proofs.Common.{◌+◌, get_or, take, sym, ◌∙◌, ap₂, arith}
+use Rattle.std.proofs.lemmas.List.{length-take-le}
 use Rattle.tables.specs.declared.normal_node.NormalNode.TheVariants.{Top}
-use Rattle.translation.specs.Building.{widths}
 use Rattle.translation.proofs.Passes.{widths_none, widths_more, widths_few, width_few}
 use Rattle.translation.proofs.automaton.total.Goals as goal
 
@@ -16,6 +15,3 @@ overflow_add-cells c =
 
 pub loop-node-preserved : goal.loop-node-preserved
 loop-node-preserved c = ap₂ ◌+◌ c.loop-node.invariant c.width-cells.ensures ∙ sym (widths_more _ _ Top c.loop-node-test.true)
-
-pub returns : goal.returns
-returns c = c.loop-node.invariant ∙ ap widths (take_all _ _ c.loop-node-test.false)
