@@ -33,11 +33,6 @@ pub some_weaker : {A : Type 0} (o : Option A) {P P' : Type 0} {Q Q' : A → Type
 some_weaker (Some x) p q h = q x h
 some_weaker None p q h = p h
 
-pub no_plain : {c : ℕ} {f : Form} → (c ≡ 49 → ⊥) → (c ≡ 48 → ⊥) → (97 ≤ c → c ≤ 112 → ⊥) → Plain c f → ⊥
-no_plain p q r (is_one e) = p e
-no_plain p q r (is_zero e) = q e
-no_plain p q r (is_fact h e) = r (omega arith) (omega arith)
-
 pub bare_joining : (o : Joining) (t : List ℕ) → (o ≡ Until → ⊥) → (o ≡ Release → ⊥) → JoiningBounds o t whole t
 bare_joining Both t p q = (refl, refl)
 bare_joining Either t p q = (refl, refl)

@@ -1,5 +1,4 @@
--- The dual of each part of a normal form, and that it is its own way back.
-use Rattle.std.specs.Prelude.{◌≡◌, refl}
+-- The dual of each part of a normal form.
 use Rattle.normalizing.specs.declared.shape.Leaf.{Leaf}
 use Rattle.normalizing.specs.declared.shape.Leaf.TheVariants.{Top, Bottom, Fact, Opposed}
 use Rattle.normalizing.specs.declared.shape.Step.{Step}
@@ -22,19 +21,3 @@ joint_dual Both = Either
 joint_dual Either = Both
 joint_dual (Until I) = Release I
 joint_dual (Release I) = Until I
-
-pub leaf_twice : (x : Leaf) → leaf_dual (leaf_dual x) ≡ x
-leaf_twice Top = refl
-leaf_twice Bottom = refl
-leaf_twice (Fact p) = refl
-leaf_twice (Opposed p) = refl
-
-pub step_twice : (x : Step) → step_dual (step_dual x) ≡ x
-step_twice (Next I) = refl
-step_twice (DualNext I) = refl
-
-pub joint_twice : (x : Joint) → joint_dual (joint_dual x) ≡ x
-joint_twice Both = refl
-joint_twice Either = refl
-joint_twice (Until I) = refl
-joint_twice (Release I) = refl

@@ -1,5 +1,5 @@
 ghost use Rattle.std.specs.Prelude.{◌≡◌, cond};
-ghost use Rattle.normalizing.specs.Duals.{leaf_dual, leaf_twice, step_dual, step_twice, joint_dual, joint_twice};
+ghost use Rattle.normalizing.specs.Duals.{leaf_dual, step_dual, joint_dual};
 ghost use Rattle.normalizing.specs.Shapes.{shape_of, leaf_node, step_node, joint_node};
 
 use tables::{Interval, Node, NormalNode};
@@ -49,6 +49,7 @@ pub enum Shape {
         leaf: Leaf,
         inner: usize,
     },
+    // the left as it is, or its opposite
     Joined {
         joint: Joint,
         left: usize,
@@ -57,11 +58,9 @@ pub enum Shape {
     },
 }
 
-// What becomes another thing of its kind in an opposite, and itself again in the opposite of that.
+// What becomes another thing of its kind in an opposite.
 trait Dual: Copy {
     ghost dual_of: { Self → Self };
-
-    ghost twice: { (x : Self) → dual_of (dual_of x) ≡ x };
 
     fn dual(self) -> Self
         ensures { result ≡ dual_of self };
@@ -69,8 +68,6 @@ trait Dual: Copy {
 
 impl Dual for Leaf {
     ghost dual_of = { leaf_dual };
-
-    ghost twice = { leaf_twice };
 
     fn dual(self) -> Leaf {
         match self {
@@ -85,8 +82,6 @@ impl Dual for Leaf {
 impl Dual for Step {
     ghost dual_of = { step_dual };
 
-    ghost twice = { step_twice };
-
     fn dual(self) -> Step {
         match self {
             Step::Next { interval } => Step::DualNext { interval },
@@ -97,8 +92,6 @@ impl Dual for Step {
 
 impl Dual for Joint {
     ghost dual_of = { joint_dual };
-
-    ghost twice = { joint_twice };
 
     fn dual(self) -> Joint {
         match self {
@@ -111,7 +104,7 @@ impl Dual for Joint {
 }
 
 // As it is, or, in an opposite, its dual.
-fn signed<D: Dual>(part: D, positive: bool) -> D
+fn dual_unless<D: Dual>(positive: bool, part: D) -> D
     ensures { result ≡ cond positive part (D.dual_of part) }
 {
     if positive { part } else { part.dual() }
@@ -123,49 +116,49 @@ pub fn shaped(node: Node, positive: bool) -> Shape
 {
     match node {
         Node::Top => Shape::Leaf {
-            leaf: signed(Leaf::Top, positive),
+            leaf: dual_unless(positive, Leaf::Top),
         },
         Node::Bottom => Shape::Leaf {
-            leaf: signed(Leaf::Bottom, positive),
+            leaf: dual_unless(positive, Leaf::Bottom),
         },
         Node::Fact { fact } => Shape::Leaf {
-            leaf: signed(Leaf::Fact { fact }, positive),
+            leaf: dual_unless(positive, Leaf::Fact { fact }),
         },
         Node::Opposite { inner } => Shape::Turned { inner },
         Node::Both { left, right } => Shape::Joined {
-            joint: signed(Joint::Both, positive),
+            joint: dual_unless(positive, Joint::Both),
             left,
             left_positive: positive,
             right,
         },
         Node::Either { left, right } => Shape::Joined {
-            joint: signed(Joint::Either, positive),
+            joint: dual_unless(positive, Joint::Either),
             left,
             left_positive: positive,
             right,
         },
         Node::Implies { left, right } => Shape::Joined {
-            joint: signed(Joint::Either, positive),
+            joint: dual_unless(positive, Joint::Either),
             left,
             left_positive: !positive,
             right,
         },
         Node::Next { interval, inner } => Shape::Stepped {
-            step: signed(Step::Next { interval }, positive),
+            step: dual_unless(positive, Step::Next { interval }),
             inner,
         },
         Node::DualNext { interval, inner } => Shape::Stepped {
-            step: signed(Step::DualNext { interval }, positive),
+            step: dual_unless(positive, Step::DualNext { interval }),
             inner,
         },
         Node::Eventually { interval, inner } => Shape::Waiting {
-            joint: signed(Joint::Until { interval }, positive),
-            leaf: signed(Leaf::Top, positive),
+            joint: dual_unless(positive, Joint::Until { interval }),
+            leaf: dual_unless(positive, Leaf::Top),
             inner,
         },
         Node::Always { interval, inner } => Shape::Waiting {
-            joint: signed(Joint::Release { interval }, positive),
-            leaf: signed(Leaf::Bottom, positive),
+            joint: dual_unless(positive, Joint::Release { interval }),
+            leaf: dual_unless(positive, Leaf::Bottom),
             inner,
         },
         Node::Until {
@@ -173,7 +166,7 @@ pub fn shaped(node: Node, positive: bool) -> Shape
             left,
             right,
         } => Shape::Joined {
-            joint: signed(Joint::Until { interval }, positive),
+            joint: dual_unless(positive, Joint::Until { interval }),
             left,
             left_positive: positive,
             right,
@@ -183,7 +176,7 @@ pub fn shaped(node: Node, positive: bool) -> Shape
             left,
             right,
         } => Shape::Joined {
-            joint: signed(Joint::Release { interval }, positive),
+            joint: dual_unless(positive, Joint::Release { interval }),
             left,
             left_positive: positive,
             right,

@@ -109,12 +109,6 @@ no_other x p h₁ h₂ h₃ (opposite_at y q) = h₁ (same_sign x y)
 no_other x p h₁ h₂ h₃ (timed_at o y b q) = h₃ o (same_sign y x)
 no_other x p h₁ h₂ h₃ (pair_at o y q j r z) = h₂ (same_sign x y)
 
-pub no_timing : {c : ℕ} → (c ≡ 88 → ⊥) → (c ≡ 89 → ⊥) → (c ≡ 70 → ⊥) → (c ≡ 71 → ⊥) → (o : Timing) → timing_sign o ≡ c → ⊥
-no_timing p q r s Next e = p (sym e)
-no_timing p q r s DualNext e = q (sym e)
-no_timing p q r s Eventually e = r (sym e)
-no_timing p q r s Always e = s (sym e)
-
 pub no_joining : {t v r : List ℕ} {f g : Form} → FormAt t f v → ((o : Joining) (I : Interval) (w : List ℕ) → JoiningAt v o I w → ⊥) → PairAt t g r → ⊥
 no_joining a p b = p b.o b.interval b.w (subst (λ t. JoiningAt t b.o b.interval b.w) (same_form b.left a).1 b.joins)
 
@@ -128,17 +122,6 @@ pub no_end : {t v w x r : List ℕ} {o : Joining} {I : Interval} {f g h : Form} 
 no_end {r = r} a j c p b =
     let e = (same_form (subst (λ t. FormAt t b.f₂ b.x) (same_right a j b) b.right) c).1 in
     p r (subst (λ t. Symbol 41 t r) e b.closes)
-
-pub read_step : {t r : List ℕ} {S S₁ : Source} → Fitting t → held S ≡ [] → S.count ≡ 0 → FormRead t S r S₁ → skip r ≡ [] → Read t S₁
-read_step {r = r} {S = S} {S₁ = S₁} l z y a e =
-    let n : S₁.count ≡ forms a.f = omega (arith, a.grown.count) in
-    record {
-      f = a.f;
-      fitting = l;
-      reads = record { rest = r; form = a.reads; ends = e };
-      count = n;
-      table = λ h. a.grown.adds (ap length z ∙ sym y) (omega arith) ∙ (λ i. z i ++ written (y i) a.f);
-    }
 
 pub no_more : {c : ℕ} {t r s : List ℕ} {f g : Form} → FormAt t f r → Symbol c r s → Reads t g → ⊥
 no_more a x b =

@@ -16,19 +16,21 @@ pub fn judged(text: &[u8]) -> Result<(), Refusal>
     Ok(())
 }
 
+// The number of a text's refusal, and 0 for a rule: the tests compare the numbers that the pages name.
+pub fn answer(text: &[u8]) -> u8
+    ensures { Answer text.now result }
+{
+    match judged(text) {
+        Ok(()) => 0,
+        Err(refusal) => refusal.number(),
+    }
+}
+
 #[cfg(test)]
 mod tests {
-    use super::judged;
+    use super::answer;
     use rules::Rule;
     use std::test::Fail;
-
-    // By the numbers that the pages name: that of a text's refusal, and 0 for a rule.
-    fn answer(text: &[u8]) -> u8 {
-        match judged(text) {
-            Ok(()) => 0,
-            Err(refusal) => refusal.number(),
-        }
-    }
 
     #[test]
     fn lengths(rt: HostRuntime) {

@@ -122,6 +122,3 @@ pushed (Err e) before after item P N h room = absurd (omega (arith, h.2))
 
 pub cells_counted : (xs : List Cell) → length (cells_of xs) ≡ length xs
 cells_counted xs = length-map xs cell_of
-
-pub entries_counted : (xs : List Location) → length (entries_of xs) ≡ length xs
-entries_counted xs = length-map xs entry_of

@@ -12,9 +12,9 @@ use tables::{Cell, Interval, Location, NormalNode};
 // What is written so far: the cells, the locations, and the root cell of each normal form.
 #[derive(Drop)]
 pub struct Builder {
-    cells: Bounded<Cell, 577>,
-    locations: Bounded<Location, 65>,
-    roots: Bounded<u16, 64>,
+    pub cells: Bounded<Cell, 577>,
+    pub locations: Bounded<Location, 65>,
+    pub roots: Bounded<u16, 64>,
 }
 
 // Clauses see the cells and locations as the translation has them.
@@ -130,13 +130,13 @@ impl Builder {
                 let (left, right) = (self.root(left), self.root(right));
                 self.plain(Cell::Or { left, right })
             }
-            NormalNode::Next { interval, inner } => self.next(Duality::Plain, interval, inner),
+            NormalNode::Next { interval, inner } => self.next(Duality::Primal, interval, inner),
             NormalNode::DualNext { interval, inner } => self.next(Duality::Dual, interval, inner),
             NormalNode::Until {
                 interval,
                 left,
                 right,
-            } => self.until(Duality::Plain, interval, left, right),
+            } => self.until(Duality::Primal, interval, left, right),
             NormalNode::Release {
                 interval,
                 left,
