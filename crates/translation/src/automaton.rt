@@ -33,11 +33,7 @@ fn total(normals: &[NormalNode]) -> u16
     requires { length normals.now ≤ 64 }
     ensures { result ≡ widths normals.now }
 {
-    let mut cells = 0;
-    for node in normals {
-        cells += width(*node);
-    }
-    cells
+    normals.iter().map(|node| width(*node)).sum()
 }
 
 // The automaton of the normal form that a table stands for.
