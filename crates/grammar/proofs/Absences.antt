@@ -1,10 +1,10 @@
 -- Where a part is not there, the whole is not.
-use Rattle.std.proofs.Common.{◌≡◌, ℕ, ◌≤◌, List, Some, None, Option, refl, subst, arith, MatchOption}
+use Rattle.std.proofs.Common.{◌≡◌, ℕ, List, Some, None, Option, refl, subst, MatchOption}
 use Rattle.grammar.specs.declared.operator.Joining.{Joining}
 use Rattle.grammar.specs.declared.operator.Joining.TheVariants.{Both, Either, Implies, Until, Release}
-use Rattle.semantics.specs.Forms.{Upper, Interval, Form}
+use Rattle.semantics.specs.Forms.{Upper, Interval}
 use Rattle.grammar.specs.Grammar.{Symbol, Number, UpperAt, no_end, an_end, whole, Inside, BoundsAt, absent, given}
-use Rattle.grammar.specs.Grammar.{JoiningBounds, Plain, is_one, is_zero, is_fact}
+use Rattle.grammar.specs.Grammar.{JoiningBounds}
 use Rattle.grammar.proofs.Unique.{same_rest, same_number, same_upper}
 
 pub no_upper : {t r : List ℕ} {a : Upper} → ((u : List ℕ) → Symbol 42 t u → ⊥) → ((n : ℕ) (u : List ℕ) → Number t n u → ⊥) → UpperAt t a r → ⊥

@@ -1,11 +1,10 @@
 -- What `form` and `pair` read, from what their parts read.
-use Rattle.std.proofs.Common.{◌≡◌, ℕ, ◌+◌, ◌-◌, List, [], ◌∷◌, ◌++◌, length, sym, refl, ap, ◌∙◌, subst, arith}
+use Rattle.std.proofs.Common.{◌≡◌, ℕ, ◌+◌, ◌-◌, List, [], ◌∷◌, ◌++◌, sym, refl, ap, ◌∙◌, subst, arith}
 use Rattle.semantics.specs.Forms.{Interval, Form, forms, opposite}
 use Rattle.tables.specs.declared.interval.Interval as code
 use Rattle.tables.specs.declared.node.Node.{Node}
 use Rattle.tables.specs.declared.node.Node.TheVariants.{Opposite}
 use Rattle.grammar.specs.declared.operator.Timing.{Timing}
-use Rattle.grammar.specs.declared.operator.Timing.TheVariants.{Next, DualNext, Eventually, Always}
 use Rattle.grammar.specs.declared.operator.Joining.{Joining}
 use Rattle.grammar.specs.Grammar.{skip, Symbol, BoundsAt, Plain, is_one, is_zero, is_fact, timing_sign, timed, joined, JoiningAt, Reads, FormAt, plain_at, opposite_at, timed_at, pair_at, PairAt}
 use Rattle.grammar.specs.Runs.{kept, BoundsRead, JoiningRead}
@@ -13,7 +12,6 @@ use Rattle.grammar.proofs.Lengths.{symbol_shorter, bounds_shorter, joining_short
 use Rattle.grammar.proofs.Unique.{same_sign, same_bounds, same_form, same_joining, from_timed}
 use Rattle.reader.specs.declared.source.Source.{Source}
 use Rattle.reader.specs.Tables.{written, timed_node, joined_node, held, Added, FormRead, PairRead, Leaf}
-use Rattle.reader.specs.Reading.{Fitting, Read}
 use Rattle.reader.proofs.Growth.{forms_opposite, forms_timed, forms_joined, written_opposite, written_timed, written_joined, grown_one, grown_two}
 
 forms_plain : {c : ℕ} {f : Form} → Plain c f → forms f ≡ 1
