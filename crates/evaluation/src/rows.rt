@@ -20,7 +20,8 @@ impl Turn<'_> {
     }
 }
 
-// Writes a grade into k places from `at` on. `fill` of slices asks for a clone that cannot fail, which `Copy` does not promise.
+// Writes a grade into k places from `at` on. `fill` of slices needs a `clone` that
+// is known not to fail; `Copy` does not say so.
 pub(crate) fn fill<S: Scale>(grades: &mut [S], at: usize, k: usize, grade: S)
     requires { at + k ≤ length grades.old }
     ensures wrote { (a : ℕ) → a < k → held_from S.ops grades.new at a ≡ grade }
@@ -31,8 +32,8 @@ pub(crate) fn fill<S: Scale>(grades: &mut [S], at: usize, k: usize, grade: S)
     }
 }
 
-// Writes what stands behind the last event into the row of each location.
 impl Automaton<'_> {
+    // Writes what stands behind the last event into the row of each location.
     pub(crate) fn begin<S: Scale>(&self, boundary: Boundary, grades: &mut [S], count: usize)
         requires short { count ≤ 512 }
         requires fits { length self.now.locations.now * count ≤ length grades.old }

@@ -25,6 +25,8 @@ fn is_proper(interval: Interval) -> bool
         .is_none_or(|upper| lower < upper || lower == upper && upper == 0)
 }
 
+// Two chains of one line, each named by its limit: one function over a test would be a third.
+//
 // Whether no number of a table is too large.
 pub fn all_small(nodes: &[Node]) -> bool
     ensures { result ≡ every_node small nodes.now }

@@ -58,7 +58,7 @@ pub enum Shape {
     },
 }
 
-// What becomes another thing of its kind in an opposite.
+// What becomes another thing of its kind in an opposite. No law: `shape_of` says what comes of each node either way.
 trait Dual: Copy {
     ghost dual_of: { Self → Self };
 

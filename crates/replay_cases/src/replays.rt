@@ -5,7 +5,7 @@ use rules::Rule;
 use running::WorkingTable;
 use scales::Scale;
 
-// An event of which only facts a and b are read. Test programs share nothing private, so `run_cases` has one too.
+// An event of which only facts a and b are read. `run_cases` has one too: a crate for six lines of a test is no plainer.
 pub(crate) fn event(time: u64, a: u8, b: u8) -> Event {
     let mut readings = [0u8; 16];
     readings[0] = a;

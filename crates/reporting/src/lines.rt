@@ -1,4 +1,5 @@
-// The parts of a report, written one behind another into a list that has room for them.
+// The parts of a report, written one behind another into a list that has room for them. Each asks for its own room, and the whole
+// report counts it once.
 ghost use Rattle.std.specs.Prelude.{◌≡◌, ◌+◌, ◌≤◌, ◌++◌, length, decimal};
 ghost use Rattle.reporting.specs.Listing.{field, line};
 

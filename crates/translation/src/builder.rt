@@ -66,6 +66,8 @@ impl Builder {
         let _ = self.roots.push(base);
     }
 
+    // Room for a location is asked apart from `Room`, since a cell without one asks for none.
+    //
     // The cells of a normal form that has one; its location's root is cell `root` of these, and the last is its own.
     fn timed(&mut self, cells: &[Cell], root: u16, is_final: bool)
         requires room { Room self.old (length cells.now) }
