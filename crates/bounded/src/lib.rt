@@ -9,7 +9,7 @@ use std::marker::Model;
 #[derive(Clone, Copy, PartialEq, Eq, Debug)]
 pub struct Full;
 
-// The first `len` of `items` are the list; what stands behind them means nothing.
+// The first `len` of `items` are the list; what stands behind them means nothing. No `Vec`, since the library has no heap.
 #[derive(Drop)]
 pub struct Bounded<T: Copy, const N: usize> {
     items: [T; N],

@@ -26,6 +26,7 @@ pub(crate) fn sooner(a: Option<u32>, b: Option<u32>) -> Option<u32>
     }
 }
 
+// Chooses a value and runs no step: no deadline where the test's verdict is the one that counts.
 fn end_unless(holds: bool, end: Option<u32>) -> Option<u32>
     ensures { upper_of result ≡ unless holds (upper_of end) }
 {

@@ -6,7 +6,7 @@ ghost use Rattle.evaluation.specs.RuleEvaluations.{grades_for, memory_refusal, R
 use crate::automaton::Automaton;
 use crate::boundary::Boundary;
 use crate::passes::backward;
-use crate::rows::{begin, fill};
+use crate::rows::fill;
 use logs::Log;
 use refusals::Refusal;
 use rules::Rule;
@@ -24,7 +24,7 @@ fn evaluate_tables<S: Scale, L: Log>(
     ensures { Evaluated S.ops (L.events log.now) automaton.now.cells.now automaton.now.locations.now boundary grades.old grades.new }
 {
     let base = automaton.locations.len() * count;
-    begin(boundary, automaton.locations, grades, count);
+    automaton.begin(boundary, grades, count);
     backward(log, automaton, grades, count);
     fill(grades, base, 2 * automaton.cells.len(), S::lowest());
 }

@@ -7,7 +7,7 @@ use crate::turn::Turn;
 use logs::{Log, MOST_EVENTS, event_of};
 use scales::Scale;
 
-// The time of each event, asked of the log once.
+// The time of each event, asked of the log once; in an array for the longest log, since the library has no heap.
 pub(crate) fn times_of<L: Log>(log: &L) -> [u64; MOST_EVENTS]
     ensures timed { Timed (L.events log.now) (length (L.events log.now)) result }
     ensures long { length result ≡ 512 }

@@ -3,10 +3,10 @@ ghost use Rattle.std.specs.Prelude.{◌≡◌, ℕ, ◌+◌, ◌*◌, ◌<◌, �
 ghost use Rattle.evaluation.specs.Columns.{held_from, held, Framed};
 ghost use Rattle.evaluation.specs.Rows.{Moved, Begun};
 
+use crate::automaton::Automaton;
 use crate::boundary::Boundary;
 use crate::turn::Turn;
 use scales::Scale;
-use tables::Location;
 
 impl Turn<'_> {
     // Moves the roots of a column that is graded whole to the places of its start.
@@ -20,7 +20,8 @@ impl Turn<'_> {
     }
 }
 
-// Writes a grade into k places from `at` on. `fill` of slices asks for a clone that cannot fail, which `Copy` does not promise.
+// Writes a grade into k places from `at` on. `fill` of slices needs a `clone` that
+// is known not to fail; `Copy` does not say so.
 pub(crate) fn fill<S: Scale>(grades: &mut [S], at: usize, k: usize, grade: S)
     requires { at + k ≤ length grades.old }
     ensures wrote { (a : ℕ) → a < k → held_from S.ops grades.new at a ≡ grade }
@@ -31,20 +32,16 @@ pub(crate) fn fill<S: Scale>(grades: &mut [S], at: usize, k: usize, grade: S)
     }
 }
 
-// Writes what stands behind the last event into the row of each location.
-pub(crate) fn begin<S: Scale>(
-    boundary: Boundary,
-    locations: &[Location],
-    grades: &mut [S],
-    count: usize,
-)
-    requires few { length locations.now ≤ 65536 }
-    requires short { count ≤ 512 }
-    requires fits { length locations.now * count ≤ length grades.old }
-    ensures { Begun S.ops boundary locations.now count (length locations.now) grades.old grades.new }
-{
-    for (l, location) in locations.iter().enumerate() {
-        fill(grades, l * count, count, boundary.grade(location.is_final));
+impl Automaton<'_> {
+    // Writes what stands behind the last event into the row of each location.
+    pub(crate) fn begin<S: Scale>(&self, boundary: Boundary, grades: &mut [S], count: usize)
+        requires short { count ≤ 512 }
+        requires fits { length self.now.locations.now * count ≤ length grades.old }
+        ensures { Begun S.ops boundary self.now.locations.now count (length self.now.locations.now) grades.old grades.new }
+    {
+        for (l, location) in self.locations.iter().enumerate() {
+            fill(grades, l * count, count, boundary.grade(location.is_final));
+        }
     }
 }
 

@@ -41,6 +41,7 @@ impl Turn<'_> {
         let root = self.automaton.locations[location].root as usize;
         let deadline = self.row_deadline(location);
         let mut segment = self.segment_at(grades, 0, root);
+        // by number, which names the start's place in its row
         for s in (1..self.at).rev() {
             let clock = self.times[self.at - 1].saturating_sub(self.times[s - 1]);
             if !at_most(deadline, clock) {

@@ -5,7 +5,8 @@ ghost use Rattle.evaluation.specs.Times.{Rising};
 use crate::automaton::Automaton;
 
 // Event `at` of `count`, whose times never fall. Each location has a row of `count` places in memory, and behind the rows,
-// from `base` on, stands the column of the event's cells.
+// from `base` on, stands the column of the event's cells. The memory is no part of a turn: with it, every method would have to
+// say of each other field that it stays; so each asks for its room.
 #[derive(Clone, Copy)]
 pub(crate) struct Turn<'a> {
     pub(crate) automaton: Automaton<'a>,

@@ -1,10 +1,10 @@
 -- Where a part is not there, the whole is not.
-use Rattle.std.proofs.Common.{◌≡◌, ℕ, ◌≤◌, List, Some, None, Option, refl, subst, arith, MatchOption}
+use Rattle.std.proofs.Common.{◌≡◌, ℕ, List, Some, None, Option, refl, subst, MatchOption}
 use Rattle.grammar.specs.declared.operator.Joining.{Joining}
 use Rattle.grammar.specs.declared.operator.Joining.TheVariants.{Both, Either, Implies, Until, Release}
-use Rattle.semantics.specs.Forms.{Upper, Interval, Form}
+use Rattle.semantics.specs.Forms.{Upper, Interval}
 use Rattle.grammar.specs.Grammar.{Symbol, Number, UpperAt, no_end, an_end, whole, Inside, BoundsAt, absent, given}
-use Rattle.grammar.specs.Grammar.{JoiningBounds, Plain, is_one, is_zero, is_fact}
+use Rattle.grammar.specs.Grammar.{JoiningBounds}
 use Rattle.grammar.proofs.Unique.{same_rest, same_number, same_upper}
 
 pub no_upper : {t r : List ℕ} {a : Upper} → ((u : List ℕ) → Symbol 42 t u → ⊥) → ((n : ℕ) (u : List ℕ) → Number t n u → ⊥) → UpperAt t a r → ⊥
@@ -32,11 +32,6 @@ no_bounds x p (given {I = I} {r = r} y q) = p I r (subst (λ t. Inside t I r) (s
 pub some_weaker : {A : Type 0} (o : Option A) {P P' : Type 0} {Q Q' : A → Type 0} → (P → P') → ((x : A) → Q x → Q' x) → MatchOption o P Q → MatchOption o P' Q'
 some_weaker (Some x) p q h = q x h
 some_weaker None p q h = p h
-
-pub no_plain : {c : ℕ} {f : Form} → (c ≡ 49 → ⊥) → (c ≡ 48 → ⊥) → (97 ≤ c → c ≤ 112 → ⊥) → Plain c f → ⊥
-no_plain p q r (is_one e) = p e
-no_plain p q r (is_zero e) = q e
-no_plain p q r (is_fact h e) = r (omega arith) (omega arith)
 
 pub bare_joining : (o : Joining) (t : List ℕ) → (o ≡ Until → ⊥) → (o ≡ Release → ⊥) → JoiningBounds o t whole t
 bare_joining Both t p q = (refl, refl)

@@ -26,6 +26,7 @@ pub enum Joining {
     Release,
 }
 
+// `of` answers an `Option`: of a `TryFrom` nobody would read the error, since what is no operator may be another form.
 impl Timing {
     pub fn of(sign: char) -> Option<Timing>
         ensures { MatchOption result ((o : Timing) → timing_sign o ≢ sign) (λ o. timing_sign o ≡ sign) }

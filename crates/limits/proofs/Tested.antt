@@ -24,10 +24,6 @@ module _ (p : meaning.Interval → Bool) where
   unfolding every_node
   every_one n = and_nil (passes p (node_interval n))
 
-  pub every_none : every_node p [] ≡ true
-  unfolding every_node
-  every_none = refl
-
   -- every entry passes, or one does not
   pub every_told :
       (r : Bool) (ns : List Node) →

@@ -12,22 +12,21 @@ const LARGEST: u32 = 1_000_000_000;
 fn is_small(interval: Interval) -> bool
     ensures { result ≡ small (interval_of interval) }
 {
-    match interval.upper {
-        None => interval.lower <= LARGEST,
-        Some(upper) => interval.lower <= LARGEST && upper <= LARGEST,
-    }
+    interval.lower <= LARGEST && interval.upper.is_none_or(|upper| upper <= LARGEST)
 }
 
 // Whether the lower end is below the upper, or both are 0.
 fn is_proper(interval: Interval) -> bool
     ensures { result ≡ proper (interval_of interval) }
 {
-    match interval.upper {
-        None => true,
-        Some(upper) => interval.lower < upper || interval.lower == upper && upper == 0,
-    }
+    let lower = interval.lower;
+    interval
+        .upper
+        .is_none_or(|upper| lower < upper || lower == upper && upper == 0)
 }
 
+// Two chains of one line, each named by its limit: one function over a test would be a third.
+//
 // Whether no number of a table is too large.
 pub fn all_small(nodes: &[Node]) -> bool
     ensures { result ≡ every_node small nodes.now }

@@ -176,9 +176,6 @@ shape_below c b (written.Always I i) h = h
 shape_below c b (written.Until I i j) h = h
 shape_below c b (written.Release I i j) h = h
 
-pub below_there : (ns : List node.Node) → Earlier ns → (b : Bool) (i : ℕ) → i < length ns → (s : shape.Shape) → s ≡ shape_of b (get_or ns i written.Top) → ShapeBelow i s
-below_there ns h b i p s e = rw e (shape_below i b (get_or ns i written.Top) (h i p))
-
 -- one part after the other
 normalized_length : {A B : List NormalNode} {f : Normal} {r : ℕ} → Normalized A B f r → length B ≡ length A + normal_forms f
 normalized_length {A = A} {f = f} a = ap length a.appended ∙ length-append A (normal_written (length A) f) ∙ ap (λ k. length A + k) (length-normal f (length A))

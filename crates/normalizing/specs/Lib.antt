@@ -1,2 +1,3 @@
 pub mod Shapes
 pub mod NormalWritten
+pub mod Duals

@@ -1,5 +1,6 @@
-ghost use Rattle.std.specs.Prelude.{◌≡◌};
-ghost use Rattle.normalizing.specs.Shapes.{constant_of, literal_of, step_of, lattice_of, waiting_of, shape_of, leaf_node, step_node, joint_node};
+ghost use Rattle.std.specs.Prelude.{◌≡◌, cond};
+ghost use Rattle.normalizing.specs.Duals.{leaf_dual, step_dual, joint_dual};
+ghost use Rattle.normalizing.specs.Shapes.{shape_of, leaf_node, step_node, joint_node};
 
 use tables::{Interval, Node, NormalNode};
 
@@ -48,6 +49,7 @@ pub enum Shape {
         leaf: Leaf,
         inner: usize,
     },
+    // the left as it is, or its opposite
     Joined {
         joint: Joint,
         left: usize,
@@ -56,46 +58,56 @@ pub enum Shape {
     },
 }
 
-fn constant(high: bool) -> Leaf
-    ensures { result ≡ constant_of high }
-{
-    if high { Leaf::Top } else { Leaf::Bottom }
+// What becomes another thing of its kind in an opposite. No law: `shape_of` says what comes of each node either way.
+trait Dual: Copy {
+    ghost dual_of: { Self → Self };
+
+    fn dual(self) -> Self
+        ensures { result ≡ dual_of self };
 }
 
-fn literal(positive: bool, fact: u8) -> Leaf
-    ensures { result ≡ literal_of positive fact }
-{
-    if positive {
-        Leaf::Fact { fact }
-    } else {
-        Leaf::Opposed { fact }
+impl Dual for Leaf {
+    ghost dual_of = { leaf_dual };
+
+    fn dual(self) -> Leaf {
+        match self {
+            Leaf::Top => Leaf::Bottom,
+            Leaf::Bottom => Leaf::Top,
+            Leaf::Fact { fact } => Leaf::Opposed { fact },
+            Leaf::Opposed { fact } => Leaf::Fact { fact },
+        }
     }
 }
 
-fn stepping(next: bool, interval: Interval) -> Step
-    ensures { result ≡ step_of next interval }
-{
-    if next {
-        Step::Next { interval }
-    } else {
-        Step::DualNext { interval }
+impl Dual for Step {
+    ghost dual_of = { step_dual };
+
+    fn dual(self) -> Step {
+        match self {
+            Step::Next { interval } => Step::DualNext { interval },
+            Step::DualNext { interval } => Step::Next { interval },
+        }
     }
 }
 
-fn lattice(both: bool) -> Joint
-    ensures { result ≡ lattice_of both }
-{
-    if both { Joint::Both } else { Joint::Either }
+impl Dual for Joint {
+    ghost dual_of = { joint_dual };
+
+    fn dual(self) -> Joint {
+        match self {
+            Joint::Both => Joint::Either,
+            Joint::Either => Joint::Both,
+            Joint::Until { interval } => Joint::Release { interval },
+            Joint::Release { interval } => Joint::Until { interval },
+        }
+    }
 }
 
-fn waiting(until: bool, interval: Interval) -> Joint
-    ensures { result ≡ waiting_of until interval }
+// As it is, or, in an opposite, its dual.
+fn dual_unless<D: Dual>(positive: bool, part: D) -> D
+    ensures { result ≡ cond positive part (D.dual_of part) }
 {
-    if until {
-        Joint::Until { interval }
-    } else {
-        Joint::Release { interval }
-    }
+    if positive { part } else { part.dual() }
 }
 
 // The opposite goes inwards: each operator becomes its dual, and keeps its interval.
@@ -104,49 +116,49 @@ pub fn shaped(node: Node, positive: bool) -> Shape
 {
     match node {
         Node::Top => Shape::Leaf {
-            leaf: constant(positive),
+            leaf: dual_unless(positive, Leaf::Top),
         },
         Node::Bottom => Shape::Leaf {
-            leaf: constant(!positive),
+            leaf: dual_unless(positive, Leaf::Bottom),
         },
         Node::Fact { fact } => Shape::Leaf {
-            leaf: literal(positive, fact),
+            leaf: dual_unless(positive, Leaf::Fact { fact }),
         },
         Node::Opposite { inner } => Shape::Turned { inner },
         Node::Both { left, right } => Shape::Joined {
-            joint: lattice(positive),
+            joint: dual_unless(positive, Joint::Both),
             left,
             left_positive: positive,
             right,
         },
         Node::Either { left, right } => Shape::Joined {
-            joint: lattice(!positive),
+            joint: dual_unless(positive, Joint::Either),
             left,
             left_positive: positive,
             right,
         },
         Node::Implies { left, right } => Shape::Joined {
-            joint: lattice(!positive),
+            joint: dual_unless(positive, Joint::Either),
             left,
             left_positive: !positive,
             right,
         },
         Node::Next { interval, inner } => Shape::Stepped {
-            step: stepping(positive, interval),
+            step: dual_unless(positive, Step::Next { interval }),
             inner,
         },
         Node::DualNext { interval, inner } => Shape::Stepped {
-            step: stepping(!positive, interval),
+            step: dual_unless(positive, Step::DualNext { interval }),
             inner,
         },
         Node::Eventually { interval, inner } => Shape::Waiting {
-            joint: waiting(positive, interval),
-            leaf: constant(positive),
+            joint: dual_unless(positive, Joint::Until { interval }),
+            leaf: dual_unless(positive, Leaf::Top),
             inner,
         },
         Node::Always { interval, inner } => Shape::Waiting {
-            joint: waiting(!positive, interval),
-            leaf: constant(!positive),
+            joint: dual_unless(positive, Joint::Release { interval }),
+            leaf: dual_unless(positive, Leaf::Bottom),
             inner,
         },
         Node::Until {
@@ -154,7 +166,7 @@ pub fn shaped(node: Node, positive: bool) -> Shape
             left,
             right,
         } => Shape::Joined {
-            joint: waiting(positive, interval),
+            joint: dual_unless(positive, Joint::Until { interval }),
             left,
             left_positive: positive,
             right,
@@ -164,7 +176,7 @@ pub fn shaped(node: Node, positive: bool) -> Shape
             left,
             right,
         } => Shape::Joined {
-            joint: waiting(!positive, interval),
+            joint: dual_unless(positive, Joint::Release { interval }),
             left,
             left_positive: positive,
             right,

@@ -1,11 +1,10 @@
 -- What `form` and `pair` read, from what their parts read.
-use Rattle.std.proofs.Common.{◌≡◌, ℕ, ◌+◌, ◌-◌, List, [], ◌∷◌, ◌++◌, length, sym, refl, ap, ◌∙◌, subst, arith}
+use Rattle.std.proofs.Common.{◌≡◌, ℕ, ◌+◌, ◌-◌, List, [], ◌∷◌, ◌++◌, sym, refl, ap, ◌∙◌, subst, arith}
 use Rattle.semantics.specs.Forms.{Interval, Form, forms, opposite}
 use Rattle.tables.specs.declared.interval.Interval as code
 use Rattle.tables.specs.declared.node.Node.{Node}
 use Rattle.tables.specs.declared.node.Node.TheVariants.{Opposite}
 use Rattle.grammar.specs.declared.operator.Timing.{Timing}
-use Rattle.grammar.specs.declared.operator.Timing.TheVariants.{Next, DualNext, Eventually, Always}
 use Rattle.grammar.specs.declared.operator.Joining.{Joining}
 use Rattle.grammar.specs.Grammar.{skip, Symbol, BoundsAt, Plain, is_one, is_zero, is_fact, timing_sign, timed, joined, JoiningAt, Reads, FormAt, plain_at, opposite_at, timed_at, pair_at, PairAt}
 use Rattle.grammar.specs.Runs.{kept, BoundsRead, JoiningRead}
@@ -13,7 +12,6 @@ use Rattle.grammar.proofs.Lengths.{symbol_shorter, bounds_shorter, joining_short
 use Rattle.grammar.proofs.Unique.{same_sign, same_bounds, same_form, same_joining, from_timed}
 use Rattle.reader.specs.declared.source.Source.{Source}
 use Rattle.reader.specs.Tables.{written, timed_node, joined_node, held, Added, FormRead, PairRead, Leaf}
-use Rattle.reader.specs.Reading.{Fitting, Read}
 use Rattle.reader.proofs.Growth.{forms_opposite, forms_timed, forms_joined, written_opposite, written_timed, written_joined, grown_one, grown_two}
 
 forms_plain : {c : ℕ} {f : Form} → Plain c f → forms f ≡ 1
@@ -109,12 +107,6 @@ no_other x p h₁ h₂ h₃ (opposite_at y q) = h₁ (same_sign x y)
 no_other x p h₁ h₂ h₃ (timed_at o y b q) = h₃ o (same_sign y x)
 no_other x p h₁ h₂ h₃ (pair_at o y q j r z) = h₂ (same_sign x y)
 
-pub no_timing : {c : ℕ} → (c ≡ 88 → ⊥) → (c ≡ 89 → ⊥) → (c ≡ 70 → ⊥) → (c ≡ 71 → ⊥) → (o : Timing) → timing_sign o ≡ c → ⊥
-no_timing p q r s Next e = p (sym e)
-no_timing p q r s DualNext e = q (sym e)
-no_timing p q r s Eventually e = r (sym e)
-no_timing p q r s Always e = s (sym e)
-
 pub no_joining : {t v r : List ℕ} {f g : Form} → FormAt t f v → ((o : Joining) (I : Interval) (w : List ℕ) → JoiningAt v o I w → ⊥) → PairAt t g r → ⊥
 no_joining a p b = p b.o b.interval b.w (subst (λ t. JoiningAt t b.o b.interval b.w) (same_form b.left a).1 b.joins)
 
@@ -128,17 +120,6 @@ pub no_end : {t v w x r : List ℕ} {o : Joining} {I : Interval} {f g h : Form} 
 no_end {r = r} a j c p b =
     let e = (same_form (subst (λ t. FormAt t b.f₂ b.x) (same_right a j b) b.right) c).1 in
     p r (subst (λ t. Symbol 41 t r) e b.closes)
-
-pub read_step : {t r : List ℕ} {S S₁ : Source} → Fitting t → held S ≡ [] → S.count ≡ 0 → FormRead t S r S₁ → skip r ≡ [] → Read t S₁
-read_step {r = r} {S = S} {S₁ = S₁} l z y a e =
-    let n : S₁.count ≡ forms a.f = omega (arith, a.grown.count) in
-    record {
-      f = a.f;
-      fitting = l;
-      reads = record { rest = r; form = a.reads; ends = e };
-      count = n;
-      table = λ h. a.grown.adds (ap length z ∙ sym y) (omega arith) ∙ (λ i. z i ++ written (y i) a.f);
-    }
 
 pub no_more : {c : ℕ} {t r s : List ℕ} {f g : Form} → FormAt t f r → Symbol c r s → Reads t g → ⊥
 no_more a x b =

@@ -14,7 +14,7 @@ use tables::{Interval, Node};
 
 const LONGEST: usize = 1024;
 
-// The node of a form of one symbol.
+// The node of a form of one symbol; if it is none, the text is no form, and nobody would read an error.
 fn plain(sign: char) -> Option<Node>
     ensures { MatchOption result ((f : meaning.Form) → Plain sign f → ⊥) (λ n. Leaf sign n) }
 {

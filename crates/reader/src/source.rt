@@ -4,7 +4,8 @@ ghost use Rattle.reader.specs.Tables.{held, Added};
 use bounded::Bounded;
 use tables::Node;
 
-// The forms of a text in the order in which they end. A text may hold more forms than the table has room for, so all are counted.
+// The forms of a text in the order in which they end. A text may hold more forms than the table has room for, so all are counted:
+// `count` is not the table's length.
 #[derive(Drop)]
 pub struct Source {
     pub nodes: Bounded<Node, 64>,

@@ -5,9 +5,7 @@ use scales::{Level, Scale};
 
 // A recording as a server makes it: opened, offered events, looked ahead from, closed and run.
 pub(crate) fn run(rt: &HostRuntime) -> anyhow::Result<()> {
-    let Ok(rules) = rules() else {
-        return Ok(());
-    };
+    let rules = rules()?;
     let mut grades = [Level::highest(); 100];
     let mut table = WorkingTable {
         grades: &mut grades,

@@ -1,6 +1,6 @@
 -- Grades that are lent: lowered at the front, put back, and what is behind them.
-use Rattle.std.proofs.Common.{◌≡◌, ℕ, ◌+◌, ◌-◌, ◌^◌, ◌<◌, ◌≤◌, min, true, List, [], ◌∷◌, ◌++◌, length, get_or, drop, set, replicate, Some, None, Result, sym, refl, ap, ◌∙◌, mul-le-mul, arith, MatchResult}
-use Rattle.std.proofs.lemmas.List.{append_assoc, length-drop, length-replicate, get_or-drop, set_at, drop_more, replicate_more, ext_get_or}
+use Rattle.std.proofs.Common.{◌≡◌, ℕ, ◌+◌, ◌-◌, ◌^◌, ◌<◌, ◌≤◌, min, true, List, ◌++◌, length, get_or, drop, Some, None, Result, sym, refl, ap, ◌∙◌, mul-le-mul, arith, MatchResult}
+use Rattle.std.proofs.lemmas.List.{length-drop, get_or-drop, ext_get_or}
 use Rattle.std.proofs.lemmas.Bool.Decides.{nat_tests}
 use Rattle.std.proofs.lemmas.Result.{MatchResult-weaker}
 use Rattle.refusals.specs.declared.refusal.Refusal.{Refusal}
@@ -14,13 +14,6 @@ use Rattle.reporting.specs.Reports.{memory_for}
 use Rattle.reporting.specs.Delivery.{report_refusal, Delivery}
 
 module _ {X : Type 0} (x : X) where
-  -- one more place of a list lowered
-  pub lowered_more : (xs : List X) (i : ℕ) → i < length xs → set (replicate i x ++ drop i xs) i x ≡ replicate (i + 1) x ++ drop (i + 1) xs
-  lowered_more xs i lt =
-      let rest = drop (i + 1) xs in
-      ap (λ ys. set (replicate i x ++ ys) i x) (drop_more xs i x lt) ∙ set_at (replicate i x) (get_or xs i x) rest x i (length-replicate i x)
-      ∙ sym (append_assoc (replicate i x) (x ∷ []) rest) ∙ ap (λ ys. ys ++ rest) (replicate_more i x)
-
   -- lists that have the same behind a place
   pub same_behind : (n : ℕ) (old new : List X) → length new ≡ length old → ((p : ℕ) → n ≤ p → get_or new p x ≡ get_or old p x) → drop n new ≡ drop n old
   same_behind n old new long same =

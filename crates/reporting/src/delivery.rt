@@ -27,7 +27,7 @@ pub(crate) const MOST_GRADES: usize = 34_434;
 
 // The page at the front of the output; answers its length.
 pub(crate) fn deliver(page: &Page, out: &mut [u8]) -> Result<usize, Refusal>
-    ensures { MatchResult result (λ n. (length (page.now) ≤ length out.old) × (n ≡ length (page.now)) × (out.new ≡ page.now ++ drop n out.old)) (λ e. (e ≡ OutputTooShort) × (length out.old < length (page.now)) × (out.new ≡ out.old)) }
+    ensures { MatchResult result (λ n. (length page.now ≤ length out.old) × (n ≡ length page.now) × (out.new ≡ page.now ++ drop n out.old)) (λ e. (e ≡ OutputTooShort) × (length out.old < length page.now) × (out.new ≡ out.old)) }
 {
     let bytes = page.as_slice();
     let length = bytes.len();
@@ -38,7 +38,7 @@ pub(crate) fn deliver(page: &Page, out: &mut [u8]) -> Result<usize, Refusal>
     Ok(length)
 }
 
-// The run in memory that is lent as a slice.
+// The run in memory that is lent as a slice; on its own, so that the table's loan ends with it.
 fn run_in<L: Log>(rule: &Rule, log: &L, grades: &mut [Doubt]) -> Result<usize, Refusal>
     ensures { MatchResult result (λ n. RuleRan doubt rule.now (L.events log.now) n grades.old grades.new) (λ e. Refused (run_refusal (grades_for rule.now (L.events log.now)) (length grades.old)) e grades.old grades.new) }
 {

@@ -10,7 +10,7 @@ use scales::{Doubt, Scale};
 // A line for each event, by the grades of the first row.
 fn write_lines<L: Log>(page: &mut Page, log: &L, grades: &[Doubt])
     requires graded { length (L.events log.now) ≤ length grades.now }
-    requires room { length (page.old) + 22 * length (L.events log.now) ≤ 11275 }
+    requires room { length page.old + 22 * length (L.events log.now) ≤ 11275 }
     ensures { page.new ≡ page.old ++ lines (L.events log.now) (row grades.now) (length (L.events log.now)) }
 {
     let row = &grades[..log.count()];

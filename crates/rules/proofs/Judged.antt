@@ -19,10 +19,6 @@ use Rattle.limits.proofs.Written.{root_as_read, depth_as_read, small_written, pr
 use Rattle.rules.specs.Judging.{form_in, judged_or, judged_of, refusal_of}
 use Rattle.rules.specs.Loading.{unread, judged, OneAnswer}
 
--- the first test that fails decides
-pub many_forms : (n : ℕ) (f : Form) → 64 < forms f → judged_or n f ≡ 3
-many_forms n f h = rw (lt-ltb 64 (forms f) h)
-
 pub too_deep : (n : ℕ) (f : Form) → forms f ≤ 64 → 32 < depth f → judged_or n f ≡ 4
 too_deep n f h k = rw (le-ltb 64 (forms f) h, lt-ltb 32 (depth f) k)
 

@@ -184,19 +184,18 @@ fn event(time: u64, a: u8, b: u8) -> Event {
 pub(crate) fn run_recorded(rt: &HostRuntime) -> anyhow::Result<()> {
     let mut places = [event(9, 9, 9); 5];
     let mut log = OpenLog::open(&mut places);
-    let mut accepted = 0u8;
-    for offered in [
+    let offered = [
         event(1000, 200, 10),
         event(1010, 20, 200),
         event(1009, 1, 1),
         event(4_000_000_000_001, 1, 1),
         event(1030, 150, 130),
         event(1090, 130, 0),
-    ] {
-        if log.offer(offered).is_ok() {
-            accepted = accepted.saturating_add(1);
-        }
-    }
+    ];
+    let accepted = offered
+        .iter()
+        .filter(|event| log.offer(**event).is_ok())
+        .count();
     println!(rt; "recorded: {accepted} of 6 accepted")?;
     let closed = log.close();
     layered::<Plain, ClosedLog<'_>>(rt, "recorded, plain", &closed)?;

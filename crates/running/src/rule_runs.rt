@@ -71,7 +71,8 @@ pub fn outlook<S: Scale, L: Log>(
     Ok((floor, ceiling))
 }
 
-// Whether an outlook's floor and ceiling are one grade. Then the verdict is final: whatever comes next, that is the grade.
+// Whether an outlook's floor and ceiling are one grade, by what is shown: a scale need not have an equality. Then the verdict is
+// final: whatever comes next, that is the grade.
 pub fn is_settled<S: Scale>(floor: S, ceiling: S) -> bool
     ensures same { Decides result (floor ≡ ceiling) }
     ensures settled { (es whole : List Event) (f : Form) (event : ℕ) → RuleForeseen S.ops es f event (floor, ceiling) → result ≡ true → LawfulContinuation es whole → grade S.ops (word S.ops whole) f event ≡ floor }

@@ -13,10 +13,7 @@ pub struct Interval {
 pub fn at_most(upper: Option<u32>, x: u64) -> bool
     ensures { result ≡ within_upper (upper_of upper) x }
 {
-    match upper {
-        None => true,
-        Some(end) => x <= end as u64,
-    }
+    upper.is_none_or(|end| x <= end as u64)
 }
 
 impl Interval {

@@ -1,5 +1,5 @@
 // A rule's tables, entry by entry: forms, normal forms, and the cells and locations of the automaton.
-// An entry names earlier entries by number, so a table stands for trees.
+// An entry names earlier entries by number, so a table stands for trees: boxes would want a heap, and the library has none.
 #![tactic(auto)]
 
 pub mod cell;

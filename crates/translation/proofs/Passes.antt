@@ -1,9 +1,10 @@
 -- A pass over a table of normal forms, entry by entry.
 use Rattle.std.proofs.Common.{◌≡◌, ℕ, ◌+◌, ◌*◌, ◌<◌, ◌≤◌, List, [], ◌∷◌, ◌++◌, length, get_or, take, Ok, Err, Result, refl, ap, ◌∙◌, arith, length-append, MatchResult}
+use Rattle.std.specs.List.{sum_by}
+use Rattle.std.proofs.lemmas.List.Sums.{sum_by-cons}
 use Rattle.std.proofs.lemmas.List.{take_more, length-map}
-use Rattle.tables.specs.CellTables.{cell_of, entry_of, cells_of, entries_of}
+use Rattle.tables.specs.CellTables.{cell_of, cells_of}
 use Rattle.tables.specs.declared.cell.Cell.{Cell}
-use Rattle.tables.specs.declared.cell.Location.{Location}
 use Rattle.tables.specs.declared.normal_node.NormalNode.{NormalNode}
 use Rattle.tables.specs.declared.normal_node.NormalNode.TheVariants.{Top, Bottom, Fact, Opposed, Both, Either, Next, DualNext, Until, Release}
 use Rattle.translation.specs.Built.{Built}
@@ -98,16 +99,15 @@ unfolding widths
 widths_append [] ns = omega arith
 widths_append (m ∷ ms) ns = omega (arith, widths_append ms ns)
 
-pub widths_none : widths [] ≡ 0
+-- the widths are their sum
+pub widths_summed : (ns : List NormalNode) → sum_by width_of ns ≡ widths ns
 unfolding widths
-widths_none = refl
+widths_summed [] = refl
+widths_summed (n ∷ ns) = sum_by-cons width_of n ns ∙ ap (λ k. width_of n + k) (widths_summed ns)
 
 pub widths_one : (n : NormalNode) → widths (n ∷ []) ≡ width_of n
 unfolding widths
 widths_one n = omega arith
-
-pub widths_more : (ns : List NormalNode) (i : ℕ) (d : NormalNode) → i < length ns → widths (take (i + 1) ns) ≡ widths (take i ns) + width_of (get_or ns i d)
-widths_more ns i d h = ap widths (take_more ns i d h) ∙ widths_append (take i ns) (get_or ns i d ∷ []) ∙ ap (λ k. widths (take i ns) + k) (widths_one (get_or ns i d))
 
 pub widths_few : (ns : List NormalNode) → (length ns ≤ widths ns) × (widths ns ≤ 9 * length ns)
 unfolding widths
@@ -122,6 +122,3 @@ pushed (Err e) before after item P N h room = absurd (omega (arith, h.2))
 
 pub cells_counted : (xs : List Cell) → length (cells_of xs) ≡ length xs
 cells_counted xs = length-map xs cell_of
-
-pub entries_counted : (xs : List Location) → length (entries_of xs) ≡ length xs
-entries_counted xs = length-map xs entry_of

@@ -7,13 +7,12 @@ use Rattle.tables.specs.declared.normal_node.NormalNode.{NormalNode}
 use Rattle.tables.specs.declared.normal_node.NormalNode.TheVariants.{Top, Bottom, Fact, Opposed, Both, Either, Next, DualNext, Until, Release}
 use Rattle.translation.specs.Built.{Built}
 use Rattle.translation.specs.declared.clauses.Duality.{Duality}
-use Rattle.translation.specs.declared.clauses.Duality.TheVariants.{Plain, Dual}
+use Rattle.translation.specs.declared.clauses.Duality.TheVariants.{Primal, Dual}
 use Rattle.translation.specs.Duals.{inner_of, outer_of, window_of, deadline_of, final_of}
 
--- there is room for k cells, a location and a root more
+-- there is room for k cells and a root more
 pub record Room (B : Built) (k : ℕ) : Type 0 where
   pub cells : length B.cells + k ≤ 577
-  pub entries : length B.entries < 65
   pub roots : length B.roots < 64
 
 -- location 0 alone
@@ -53,9 +52,9 @@ write B (Fact p) = plain_added B (cell_holds p)
 write B (Opposed p) = plain_added B (cell_fails p)
 write B (Both i j) = plain_added B (cell_and (root_at B i) (root_at B j))
 write B (Either i j) = plain_added B (cell_or (root_at B i) (root_at B j))
-write B (Next I i) = next_added B Plain (interval_of I) i
+write B (Next I i) = next_added B Primal (interval_of I) i
 write B (DualNext I i) = next_added B Dual (interval_of I) i
-write B (Until I i j) = until_added B Plain (interval_of I) i j
+write B (Until I i j) = until_added B Primal (interval_of I) i j
 write B (Release I i j) = until_added B Dual (interval_of I) i j
 
 -- normal forms more, in order

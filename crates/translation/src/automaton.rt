@@ -20,16 +20,11 @@ fn width(node: NormalNode) -> u16
     ensures { result ≡ width_of node }
 {
     match node {
-        NormalNode::Top => 1,
-        NormalNode::Bottom => 1,
-        NormalNode::Fact { .. } => 1,
-        NormalNode::Opposed { .. } => 1,
-        NormalNode::Both { .. } => 1,
-        NormalNode::Either { .. } => 1,
-        NormalNode::Next { .. } => 5,
-        NormalNode::DualNext { .. } => 5,
-        NormalNode::Until { .. } => 9,
-        NormalNode::Release { .. } => 9,
+        NormalNode::Top | NormalNode::Bottom => 1,
+        NormalNode::Fact { .. } | NormalNode::Opposed { .. } => 1,
+        NormalNode::Both { .. } | NormalNode::Either { .. } => 1,
+        NormalNode::Next { .. } | NormalNode::DualNext { .. } => 5,
+        NormalNode::Until { .. } | NormalNode::Release { .. } => 9,
     }
 }
 
@@ -38,11 +33,7 @@ fn total(normals: &[NormalNode]) -> u16
     requires { length normals.now ≤ 64 }
     ensures { result ≡ widths normals.now }
 {
-    let mut cells = 0;
-    for node in normals {
-        cells += width(*node);
-    }
-    cells
+    normals.iter().map(|node| width(*node)).sum()
 }
 
 // The automaton of the normal form that a table stands for.

@@ -12,9 +12,9 @@ use tables::{Cell, Interval, Location, NormalNode};
 // What is written so far: the cells, the locations, and the root cell of each normal form.
 #[derive(Drop)]
 pub struct Builder {
-    cells: Bounded<Cell, 577>,
-    locations: Bounded<Location, 65>,
-    roots: Bounded<u16, 64>,
+    pub cells: Bounded<Cell, 577>,
+    pub locations: Bounded<Location, 65>,
+    pub roots: Bounded<u16, 64>,
 }
 
 // Clauses see the cells and locations as the translation has them.
@@ -66,9 +66,12 @@ impl Builder {
         let _ = self.roots.push(base);
     }
 
+    // Room for a location is asked apart from `Room`, since a cell without one asks for none.
+    //
     // The cells of a normal form that has one; its location's root is cell `root` of these, and the last is its own.
     fn timed(&mut self, cells: &[Cell], root: u16, is_final: bool)
         requires room { Room self.old (length cells.now) }
+        requires location { length self.old.entries < 65 }
         requires there { root < length cells.now }
         ensures { self.new ≡ timed_added self.old (cells_of cells.now) root is_final }
     {
@@ -84,6 +87,7 @@ impl Builder {
     // A next, or its dual.
     fn next(&mut self, duality: Duality, interval: Interval, inner: usize)
         requires room { Room self.old 5 }
+        requires location { length self.old.entries < 65 }
         requires there { inner < length self.old.roots }
         ensures { self.new ≡ next_added self.old duality (interval_of interval) inner }
     {
@@ -96,6 +100,7 @@ impl Builder {
     // An until, or its dual.
     fn until(&mut self, duality: Duality, interval: Interval, left: usize, right: usize)
         requires room { Room self.old 9 }
+        requires location { length self.old.entries < 65 }
         requires left { left < length self.old.roots }
         requires right { right < length self.old.roots }
         ensures { self.new ≡ until_added self.old duality (interval_of interval) left right }
@@ -110,6 +115,7 @@ impl Builder {
     // The cells and the location of one normal form more.
     pub fn add(&mut self, node: NormalNode)
         requires room { Room self.old 9 }
+        requires location { length self.old.entries < 65 }
         requires earlier { NormalBelow (length self.old.roots) node }
         ensures { self.new ≡ write self.old node }
     {
@@ -126,13 +132,13 @@ impl Builder {
                 let (left, right) = (self.root(left), self.root(right));
                 self.plain(Cell::Or { left, right })
             }
-            NormalNode::Next { interval, inner } => self.next(Duality::Plain, interval, inner),
+            NormalNode::Next { interval, inner } => self.next(Duality::Primal, interval, inner),
             NormalNode::DualNext { interval, inner } => self.next(Duality::Dual, interval, inner),
             NormalNode::Until {
                 interval,
                 left,
                 right,
-            } => self.until(Duality::Plain, interval, left, right),
+            } => self.until(Duality::Primal, interval, left, right),
             NormalNode::Release {
                 interval,
                 left,

@@ -10,7 +10,7 @@ use tables::{Cell, Interval};
 // A next or an until, or its dual: every joint and every test turns into its opposite.
 #[derive(Clone, Copy)]
 pub enum Duality {
-    Plain,
+    Primal,
     Dual,
 }
 
@@ -19,7 +19,7 @@ impl Duality {
         ensures { cell_of result ≡ inner_of self left right }
     {
         match self {
-            Duality::Plain => Cell::And { left, right },
+            Duality::Primal => Cell::And { left, right },
             Duality::Dual => Cell::Or { left, right },
         }
     }
@@ -28,7 +28,7 @@ impl Duality {
         ensures { cell_of result ≡ outer_of self left right }
     {
         match self {
-            Duality::Plain => Cell::Or { left, right },
+            Duality::Primal => Cell::Or { left, right },
             Duality::Dual => Cell::And { left, right },
         }
     }
@@ -37,7 +37,7 @@ impl Duality {
         ensures { cell_of result ≡ window_of self (interval_of interval) }
     {
         match self {
-            Duality::Plain => Cell::Inside { interval },
+            Duality::Primal => Cell::Inside { interval },
             Duality::Dual => Cell::Outside { interval },
         }
     }
@@ -46,7 +46,7 @@ impl Duality {
         ensures { cell_of result ≡ deadline_of self (upper_of upper) }
     {
         match self {
-            Duality::Plain => Cell::AtMost { upper },
+            Duality::Primal => Cell::AtMost { upper },
             Duality::Dual => Cell::Above { upper },
         }
     }
@@ -56,7 +56,7 @@ impl Duality {
         ensures { result ≡ final_of self }
     {
         match self {
-            Duality::Plain => false,
+            Duality::Primal => false,
             Duality::Dual => true,
         }
     }

@@ -1,7 +1,6 @@
 use Rattle.std.proofs.Common.{arith}
 use Rattle.semantics.specs.Forms.{top, bottom, fact}
 use Rattle.grammar.specs.Grammar.{is_one, is_zero, is_fact}
-use Rattle.grammar.proofs.Absences.{no_plain}
 use Rattle.reader.proofs.Growth.{written_top, written_bottom, written_fact}
 use Rattle.reader.proofs.parsing.plain.Goals as goal
 
@@ -13,9 +12,3 @@ returns-in-0 c = record { f = bottom; reads = is_zero (omega arith); is = writte
 
 pub returns-in-a-to-p : goal.returns-in-a-to-p
 returns-in-a-to-p c = record { f = fact _; reads = is_fact (omega arith) (omega arith); is = written_fact _ }
-
-pub returns-in_default : goal.returns-in_default
-returns-in_default c = λ f h. no_plain (omega arith) (omega arith) (omega arith) h
-
-pub returns-in_default-2 : goal.returns-in_default-2
-returns-in_default-2 c = λ f h. no_plain (omega arith) (omega arith) (omega arith) h

@@ -1,6 +1,6 @@
 use Rattle.std.proofs.Common.{arith}
 use Rattle.reader.specs.Reading.{of_length, not_a_form}
-use Rattle.reader.proofs.Steps.{read_step, no_more}
+use Rattle.reader.proofs.Steps.{no_more}
 use Rattle.reader.proofs.parsing.read.Goals as goal
 
 pub returns-then-text-eq0 : goal.returns-then-text-eq0
@@ -11,6 +11,3 @@ returns-in_default c = not_a_form (record { some = omega arith; short = omega ar
 
 pub returns-in-Some-first : goal.returns-in-Some-first
 returns-in-Some-first c = not_a_form (record { some = omega arith; short = omega arith }) (λ f h. no_more c.in-Some.ensures.reads c.in-Some-first.ensures h)
-
-pub returns-in-None : goal.returns-in-None
-returns-in-None c = read_step (record { some = omega arith; short = omega arith }) c.new-source.ensures.empty c.new-source.ensures.count c.in-Some.ensures c.in-None.ensures

@@ -1,21 +1,13 @@
-use Rattle.std.proofs.Common.{◌+◌, get_or, take, sym, ap, ◌∙◌, ap₂, arith}
-use Rattle.std.proofs.lemmas.List.{take_all, length-take-le}
-use Rattle.tables.specs.declared.normal_node.NormalNode.TheVariants.{Top}
-use Rattle.translation.specs.Building.{widths}
-use Rattle.translation.proofs.Passes.{widths_none, widths_more, widths_few, width_few}
+use borrow.Author.Tests.{tests}
+use Rattle.std.proofs.Common.{◌∙◌, rules}
+use Rattle.std.proofs.lemmas.Iterator.{YieldsList-from_slice, YieldsList-from_map}
+use Rattle.std.proofs.lemmas.Iterator.Consumers.{sum_by_from_yields_List}
+use Rattle.translation.specs.Building.{width_of}
+use Rattle.translation.proofs.Passes.{widths_summed}
 use Rattle.translation.proofs.automaton.total.Goals as goal
 
-pub loop-node-init : goal.loop-node-init
-loop-node-init c = sym widths_none
-
-pub overflow_add-cells : goal.overflow_add-cells
-overflow_add-cells c =
-    let ns = c.args.normals.now in
-    let i = c.loop-node.node-index in
-    omega (arith, c.loop-node.invariant, widths_few (take i ns), length-take-le i ns c.loop-node.auto.node-index-end, c.width-cells.ensures, width_few (get_or ns i Top), c.requires, c.loop-node-test.true)
-
-pub loop-node-preserved : goal.loop-node-preserved
-loop-node-preserved c = ap₂ ◌+◌ c.loop-node.invariant c.width-cells.ensures ∙ sym (widths_more _ _ Top c.loop-node-test.true)
-
 pub returns : goal.returns
-returns c = c.loop-node.invariant ∙ ap widths (take_all _ _ c.loop-node-test.false)
+returns c =
+    sum_by_from_yields_List width_of c.args.normals.now c.map.result c.sum.result c.sum.ensures.ran
+    (YieldsList-from_map _ width_of (YieldsList-from_slice c.args.normals.now cc) c.map.ensures.closure (λ x r q k. search (rules, tests)))
+    ∙ widths_summed c.args.normals.now

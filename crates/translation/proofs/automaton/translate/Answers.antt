@@ -26,9 +26,9 @@ add-requires c =
       room =
           record {
             cells = omega (arith, ap (λ (B : Built). length B.cells) inv, a.cells, n, under, c.requires.few);
-            entries = omega (arith, ap (λ (B : Built). length B.entries) inv, a.entries, n, under, c.requires.few);
             roots = omega (arith, roots, under, c.requires.few);
           };
+      location = omega (arith, ap (λ (B : Built). length B.entries) inv, a.entries, n, under, c.requires.few);
       earlier = subst (λ k. NormalBelow k (get_or ns i Top)) (sym roots) (c.requires.earlier i under);
     }
 
