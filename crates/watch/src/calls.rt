@@ -1,15 +1,16 @@
 use logs::{Event, MOST_EVENTS};
+use recorded::Call;
+use std::alloc::{AllocError, Global};
 use std::str::SplitWhitespace;
 
 // A line of `calls.txt`.
 #[derive(Drop)]
-pub(crate) enum Call {
+pub(crate) enum Line {
     // `places N`: how many events the log has room for, 512 where no line says so
     Places { count: usize },
-    // `offer TIME a=READING b=READING ..`, facts that are not named reading 0
-    Offer { event: Event },
+    // `offer TIME a=READING b=READING ..`, facts that are not named reading 0;
     // `outlook EVENT GRADES`, with so many grades of memory, or `outlook EVENT`, with as much as is needed
-    Outlook { event: usize, grades: Option<usize> },
+    Call { call: Call },
 }
 
 // The number of a fact and its reading, as `c=200`.
@@ -37,31 +38,46 @@ fn number(word: Option<&str>) -> Option<usize> {
     word?.parse().ok()
 }
 
-// The call of a line, if it is one.
-pub(crate) fn parsed(line: &str) -> Option<Call> {
+// The call of a line, or what it says of places, if it is either.
+pub(crate) fn parsed(line: &str) -> Option<Line> {
     let mut words = line.split_whitespace();
     let name = words.next()?;
     if name == "offer" {
-        return Some(Call::Offer {
-            event: event(words)?,
+        let event = event(words)?;
+        return Some(Line::Call {
+            call: Call::Offer { event },
         });
     }
     let first = number(words.next())?;
     let second = number(words.next());
     match (name, second) {
-        ("places", None) => Some(Call::Places { count: first }),
-        ("outlook", grades) => Some(Call::Outlook {
-            event: first,
-            grades,
+        ("places", None) => Some(Line::Places { count: first }),
+        ("outlook", grades) => Some(Line::Call {
+            call: Call::Outlook {
+                rule: 0,
+                event: first,
+                memory: grades.unwrap_or(usize::MAX),
+            },
         }),
         _ => None,
     }
 }
 
+// The calls of a text, in order.
+pub(crate) fn calls(heap: Global, text: &str) -> Result<Vec<Call>, AllocError> {
+    let mut calls = Vec::new(heap);
+    for line in text.lines() {
+        if let Some(Line::Call { call }) = parsed(line) {
+            calls.push(call)?;
+        }
+    }
+    Ok(calls)
+}
+
 // As many places as the first line asks for, and no more than a log has events at most.
 pub(crate) fn places(text: &str) -> usize {
     match text.lines().next().and_then(parsed) {
-        Some(Call::Places { count }) => count.min(MOST_EVENTS),
+        Some(Line::Places { count }) => count.min(MOST_EVENTS),
         _ => MOST_EVENTS,
     }
 }

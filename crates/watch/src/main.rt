@@ -3,22 +3,54 @@
 #![tactic(auto)]
 
 mod calls;
-mod playing;
+mod telling;
 
-use crate::calls::places;
-use crate::playing::play;
+use crate::calls::{calls, places};
+use crate::telling::{graded, lines, refused};
+use logs::{Event, MOST_EVENTS};
+use recorded::{Outcome, replay};
 use rules::Rule;
-use std::fs;
+use running::WorkingTable;
+use scales::Doubt;
+use std::{fs, slice};
+
+// The whole recording is one call, whose contract holds every answer and every grade.
+fn record(rt: &HostRuntime, rule: &Rule, text: &str) -> anyhow::Result<()> {
+    let blank = Event {
+        time: 0,
+        readings: [0; 16],
+    };
+    let calls = calls(rt.alloc(), text)?;
+    let mut events = vec![in rt.alloc(); blank; places(text)]?;
+    let mut answers = vec![in rt.alloc(); Ok(Outcome::Accepted); calls.len()]?;
+    // as much as the longest log takes
+    let mut grades = vec![in rt.alloc(); Doubt::No; rule.grades_needed(MOST_EVENTS)]?;
+    let mut table = WorkingTable {
+        grades: grades.as_mut_slice(),
+    };
+    let ran = replay(
+        rule,
+        slice::from_ref(rule),
+        events.as_mut_slice(),
+        calls.as_slice(),
+        answers.as_mut_slice(),
+        &mut table,
+    );
+    lines(rt, text, answers.as_slice())?;
+    match ran {
+        Ok(count) => graded(rt, events.as_slice(), table.grades, count),
+        Err(refusal) => refused(rt, refusal),
+    }
+}
 
 fn main(rt: HostRuntime) -> anyhow::Result<()> {
     let rule = fs::read_to_string(&rt, "rule.txt")?;
     let calls = fs::read_to_string(&rt, "calls.txt")?;
     match Rule::load(rule.as_str().trim_end().as_bytes()) {
-        Ok(rule) => play(&rt, &rule, calls.as_str(), places(calls.as_str())),
+        Ok(rule) => record(&rt, &rule, calls.as_str()),
         Err(refusal) => {
-            let number = refusal.number();
-            println!(rt; "rule refused {number}: {refusal}")?;
-            Ok(())
+            print!(rt; "rule ")?;
+            refused(&rt, refusal)
         }
     }
 }
