@@ -22,7 +22,7 @@ use Rattle.evaluation.specs.Clauses.{clauses}
 use Rattle.evaluation.specs.Deadlines.{deadline}
 use Rattle.evaluation.specs.Segments.{own_value, horizon}
 use Rattle.evaluation.specs.Times.{Rising}
-use Rattle.evaluation.specs.Passes.{worth, cell_grade, fresh_value, Timed, Fresh, RowAt, Segmented, Deadline, RowDone, RowsDone}
+use Rattle.evaluation.specs.Passes.{worth, cell_grade, fresh_value, Timed, Fresh, RowAt, Valued, Segmented, Deadline, RowDone, RowsDone}
 use Rattle.evaluation.proofs.Places.{place_below, row_fits}
 use Rattle.evaluation.proofs.Grading.{worth_is}
 use Rattle.evaluation.proofs.Turns.{sound}
@@ -135,13 +135,28 @@ module _ {G : Type 0} (S : Ops G) (laws : Laws S) (t : Turn) (m : ℕ) (fits : t
       ∙ sym (owned S (word S es) (λ k r. worth S es cells locations after k r (suc t.at)) l s t.at clause ((sound t.automaton).homes l there))
       ∙ sym (worth_is cells locations S es after l s t.at there in_log)
 
-  pub reached_more : (s s₁ clock p : ℕ) (g : Segment G) (old gs new : List G) → s₁ ≡ suc s → 0 < s → s₁ ≤ t.at → length gs ≡ m → p ≡ l * t.count + (s - 1) →
-      ((es : List Event) → Timed es t.count times → clock ≡ elapsed (word S es) s t.at) → Fitting old clock g → Reached S t l s₁ old gs →
-      new ≡ set gs p (S.join (S.meet (get_or gs p S.low) g.high) g.low) → Reached S t l s old new
-  reached_more s s₁ clock p g old gs new next begun order long at clocks fitting reached wrote =
+  -- the value of a start, as it is asked
+  by_value : (es : List Event) (after : ℕ → ℕ → G) (s clock : ℕ) (next x : G) (gs : List G) → Fresh S es after t gs → t.at ≤ length es →
+      clock ≡ elapsed (word S es) s t.at → next ≡ worth S es cells locations after l s (suc t.at) → Valued S t clock next gs root x →
+      x ≡ worth S es cells locations after l s t.at
+  unfolding cell_grade
+  by_value es after s clock next x gs fresh in_log is stood valued =
+      let clause = get_or (clauses cells) root reject in
+      let value = fresh_value S es cells locations after t.at in
+      valued es after fresh
+      ∙ ap (λ y. own_value S value clock y clause) stood
+      ∙ ap (λ y. own_value S value y (worth S es cells locations after l s (suc t.at)) clause) is
+      ∙ sym (owned S (word S es) (λ k r. worth S es cells locations after k r (suc t.at)) l s t.at clause ((sound t.automaton).homes l there))
+      ∙ sym (worth_is cells locations S es after l s t.at there in_log)
+
+  -- one start more, whose place takes its value
+  reached_put : (s s₁ p : ℕ) (x : G) (old gs new : List G) → s₁ ≡ suc s → 0 < s → s₁ ≤ t.at → length gs ≡ m → p ≡ l * t.count + (s - 1) → Reached S t l s₁ old gs →
+      ((es : List Event) (after : ℕ → ℕ → G) → Timed es t.count times → Fresh S es after t old → t.at ≤ length es →
+      get_or gs p S.low ≡ worth S es cells locations after l s (suc t.at) → x ≡ worth S es cells locations after l s t.at) →
+      new ≡ set gs p x → Reached S t l s old new
+  reached_put s s₁ p x old gs new next begun order long at reached worths wrote =
       let before : Framed S (l * t.count + (s₁ - 1)) (t.at - s₁) old gs = reached.framed in
       let inside : p < length gs = omega (arith, place_below l t.count s (length locations) there begun (omega (arith, t.logged)), t.based, fits) in
-      let x = S.join (S.meet (get_or gs p S.low) g.high) g.low in
       let put = moved_start S gs p (l * t.count + (s - 1)) x at inside in
       let framed : Framed S (l * t.count + (s - 1)) 1 gs new = subst (Framed S (l * t.count + (s - 1)) 1 gs) (sym wrote) put.1 in
       record {
@@ -151,10 +166,9 @@ module _ {G : Type 0} (S : Ops G) (laws : Laws S) (t : Turn) (m : ℕ) (fits : t
             let stood : get_or gs p S.low ≡ worth S es cells locations after l s (suc t.at) =
             ap (λ k. get_or gs k S.low) at ∙ before.below (l * t.count + (s - 1)) (omega arith) ∙ row s begun (omega arith) in
             let here : held S t.count new l s ≡ worth S es cells locations after l s t.at =
-            ap (λ gs. get_or gs (l * t.count + (s - 1)) S.low) wrote ∙ put.0 ∙ ap (λ y. S.join (S.meet y g.high) g.low) stood
-            ∙ by_segment es after s clock g old fresh in_log (clocks es timed) fitting in
+            ap (λ gs. get_or gs (l * t.count + (s - 1)) S.low) wrote ∙ put.0 ∙ worths es after timed fresh in_log stood in
             ⊎_elim
-            (λ x. subst (λ y. held S t.count new l y ≡ worth S es cells locations after l y t.at) (sym x) here)
+            (λ e. subst (λ y. held S t.count new l y ≡ worth S es cells locations after l y t.at) (sym e) here)
             (λ ne. framed.above (l * t.count + (r - 1)) (omega arith) ∙ reached.done es after timed fresh row r (omega arith) q)
             (cases_eq r s);
         framed = record {
@@ -162,6 +176,21 @@ module _ {G : Type 0} (S : Ops G) (laws : Laws S) (t : Turn) (m : ℕ) (fits : t
           above = λ p h. framed.above p (omega arith) ∙ before.above p (omega arith);
         };
       }
+
+  pub reached_more : (s s₁ clock p : ℕ) (g : Segment G) (old gs new : List G) → s₁ ≡ suc s → 0 < s → s₁ ≤ t.at → length gs ≡ m → p ≡ l * t.count + (s - 1) →
+      ((es : List Event) → Timed es t.count times → clock ≡ elapsed (word S es) s t.at) → Fitting old clock g → Reached S t l s₁ old gs →
+      new ≡ set gs p (S.join (S.meet (get_or gs p S.low) g.high) g.low) → Reached S t l s old new
+  reached_more s s₁ clock p g old gs new next begun order long at clocks fitting reached =
+      reached_put s s₁ p (S.join (S.meet (get_or gs p S.low) g.high) g.low) old gs new next begun order long at reached
+      (λ es after timed fresh in_log stood. ap (λ y. S.join (S.meet y g.high) g.low) stood ∙ by_segment es after s clock g old fresh in_log (clocks es timed) fitting)
+
+  pub reached_value : (s s₁ clock p : ℕ) (x : G) (old gs new : List G) → s₁ ≡ suc s → 0 < s → s₁ ≤ t.at → length gs ≡ m → p ≡ l * t.count + (s - 1) →
+      ((es : List Event) → Timed es t.count times → clock ≡ elapsed (word S es) s t.at) → Valued S t clock (get_or gs p S.low) gs root x → Reached S t l s₁ old gs →
+      new ≡ set gs p x → Reached S t l s old new
+  reached_value s s₁ clock p x old gs new next begun order long at clocks valued reached =
+      reached_put s s₁ p x old gs new next begun order long at reached
+      (λ es after timed fresh in_log stood.
+      by_value es after s clock (get_or gs p S.low) x gs (fresh_kept s₁ old gs (omega arith) order reached.framed es after fresh) in_log (clocks es timed) stood valued)
 
   wider : (s : ℕ) (old new : List G) → 0 < s → s ≤ t.at → Framed S (l * t.count + (s - 1)) (t.at - s) old new → Framed S (l * t.count) (t.at - 1) old new
   wider s old new begun order framed =

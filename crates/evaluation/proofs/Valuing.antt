@@ -18,7 +18,8 @@ use Rattle.evaluation.specs.Columns.{held_from}
 use Rattle.evaluation.specs.Deadlines.{sooner}
 use Rattle.evaluation.specs.Segments.{own_value, end_from, window_from, horizon}
 use Rattle.evaluation.specs.Clauses.{clauses}
-use Rattle.evaluation.specs.Passes.{cell_grade, fresh_value, Fresh, Valued}
+use Rattle.evaluation.specs.declared.segments.Segment.{Segment}
+use Rattle.evaluation.specs.Passes.{cell_grade, fresh_value, Fresh, Valued, Segmented}
 use Rattle.evaluation.proofs.Turns.{sound}
 
 -- a cell that is neither a test nor made of two parts
@@ -170,3 +171,25 @@ module _ (t : Turn) (k : ℕ) (there : k < length t.automaton.cells.now) (c : Ce
       alike f (Above u) p _ _ = absurd (p.not_above u refl)
       alike f (Reset a) p n _ = absurd (n a refl)
       alike f (Jump l) p _ n = absurd (n l refl)
+
+-- a segment of a cell by a clock is its horizon and its values by that clock
+module _ {G : Type 0} (S : Ops G) (t : Turn) (gs : List G) (k clock : ℕ) (g : Segment G) (is : g.since ≡ clock) where
+  abbrev clause : Clause
+  clause = get_or (clauses t.automaton.cells.now) k reject
+
+  pub segmented_by : upper_of g.horizon ≡ horizon clock clause → Valued S t clock S.low gs k g.low → Valued S t clock S.high gs k g.high → Segmented S t gs k g
+  segmented_by ends low high =
+      record {
+        ends = ends ∙ ap (λ x. horizon x clause) (sym is);
+        lowest = subst (λ x. Valued S t x S.low gs k g.low) (sym is) low;
+        highest = subst (λ x. Valued S t x S.high gs k g.high) (sym is) high;
+      }
+
+  pub ends_by : Segmented S t gs k g → upper_of g.horizon ≡ horizon clock clause
+  ends_by segmented = segmented.ends ∙ ap (λ x. horizon x clause) is
+
+  pub low_by : Segmented S t gs k g → Valued S t clock S.low gs k g.low
+  low_by segmented = subst (λ x. Valued S t x S.low gs k g.low) is segmented.lowest
+
+  pub high_by : Segmented S t gs k g → Valued S t clock S.high gs k g.high
+  high_by segmented = subst (λ x. Valued S t x S.high gs k g.high) is segmented.highest

@@ -7,12 +7,16 @@ use crate::turn::Turn;
 use logs::{Log, MOST_EVENTS, event_of};
 use scales::Scale;
 
-// The time of each event, asked of the log once; in an array for the longest log, since the library has no heap.
-pub(crate) fn times_of<L: Log>(log: &L) -> [u64; MOST_EVENTS]
+// A log of no more events than this has its times in a small array: to clear the large one would take longer than its run.
+const FEW_EVENTS: usize = 16;
+
+// The time of each event, asked of the log once; in an array, since the library has no heap.
+fn times_of<L: Log, const N: usize>(log: &L) -> [u64; N]
+    requires fits { length (L.events log.now) ≤ N }
     ensures timed { Timed (L.events log.now) (length (L.events log.now)) result }
-    ensures long { length result ≡ 512 }
+    ensures long { length result ≡ N }
 {
-    let mut times = [0; MOST_EVENTS];
+    let mut times = [0; N];
     for (k, time) in times[..log.count()].iter_mut().enumerate() {
         *time = log.time(k + 1);
     }
@@ -34,6 +38,33 @@ impl Turn<'_> {
     }
 }
 
+// From the last event to the first, by their times.
+fn backward_by<S: Scale, L: Log>(
+    log: &L,
+    automaton: &Automaton<'_>,
+    times: &[u64],
+    grades: &mut [S],
+    count: usize,
+)
+    requires timed { Timed (L.events log.now) count times.now }
+    requires long { count ≤ length times.now }
+    requires fits { length automaton.now.locations.now * count + length automaton.now.cells.now ≤ length grades.old }
+    ensures done { EventsDone S.ops (L.events log.now) automaton.now.cells.now automaton.now.locations.now count 0 grades.old grades.new }
+    ensures rest { Rest S.ops (length automaton.now.locations.now * count) (length automaton.now.cells.now) grades.old grades.new }
+{
+    let base = automaton.locations.len() * count;
+    for at in (1..=count).rev() {
+        let turn = Turn {
+            automaton: *automaton,
+            times,
+            at,
+            count,
+            base,
+        };
+        turn.at_event(log, grades);
+    }
+}
+
 // From the last event to the first.
 pub(crate) fn backward<S: Scale, L: Log>(
     log: &L,
@@ -46,16 +77,21 @@ pub(crate) fn backward<S: Scale, L: Log>(
     ensures done { EventsDone S.ops (L.events log.now) automaton.now.cells.now automaton.now.locations.now count 0 grades.old grades.new }
     ensures rest { Rest S.ops (length automaton.now.locations.now * count) (length automaton.now.cells.now) grades.old grades.new }
 {
-    let times = times_of(log);
-    let base = automaton.locations.len() * count;
-    for at in (1..=count).rev() {
-        let turn = Turn {
-            automaton: *automaton,
-            times: &times,
-            at,
+    if count <= FEW_EVENTS {
+        backward_by(
+            log,
+            automaton,
+            &times_of::<L, FEW_EVENTS>(log),
+            grades,
             count,
-            base,
-        };
-        turn.at_event(log, grades);
+        );
+    } else {
+        backward_by(
+            log,
+            automaton,
+            &times_of::<L, MOST_EVENTS>(log),
+            grades,
+            count,
+        );
     }
 }

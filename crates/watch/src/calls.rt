@@ -63,15 +63,26 @@ pub(crate) fn parsed(line: &str) -> Option<Line> {
     }
 }
 
-// The calls of a text, in order.
-pub(crate) fn calls(heap: Global, text: &str) -> Result<Vec<Call>, AllocError> {
+// The calls of a text, in order, and of each of its lines whether it is one.
+#[derive(Drop)]
+pub(crate) struct Script {
+    pub(crate) calls: Vec<Call>,
+    pub(crate) is_call: Vec<bool>,
+}
+
+// Each line is read once here, and those that are no calls once more when they are told; `places` reads the first.
+pub(crate) fn read_script(heap: Global, text: &str) -> Result<Script, AllocError> {
     let mut calls = Vec::new(heap);
+    let mut is_call = Vec::new(heap);
     for line in text.lines() {
         if let Some(Line::Call { call }) = parsed(line) {
             calls.push(call)?;
+            is_call.push(true)?;
+        } else {
+            is_call.push(false)?;
         }
     }
-    Ok(calls)
+    Ok(Script { calls, is_call })
 }
 
 // As many places as the first line asks for, and no more than a log has events at most.

@@ -1,11 +1,11 @@
 // Records a log from the calls in `calls.txt`, a line each, with a look ahead by the rule in `rule.txt` wherever a call asks
-// for one, and prints each answer; then closes the log and prints the rule's grade at every event. The scale is Doubt.
+// for one, and prints each answer; then prints the rule's grade at every event. The scale is Doubt.
 #![tactic(auto)]
 
 mod calls;
 mod telling;
 
-use crate::calls::{calls, places};
+use crate::calls::{places, read_script};
 use crate::telling::{graded, lines, refused};
 use logs::{Event, MOST_EVENTS};
 use recorded::{Outcome, replay};
@@ -20,9 +20,9 @@ fn record(rt: &HostRuntime, rule: &Rule, text: &str) -> anyhow::Result<()> {
         time: 0,
         readings: [0; 16],
     };
-    let calls = calls(rt.alloc(), text)?;
+    let script = read_script(rt.alloc(), text)?;
     let mut events = vec![in rt.alloc(); blank; places(text)]?;
-    let mut answers = vec![in rt.alloc(); Ok(Outcome::Accepted); calls.len()]?;
+    let mut answers = vec![in rt.alloc(); Ok(Outcome::Accepted); script.calls.len()]?;
     // as much as the longest log takes
     let mut grades = vec![in rt.alloc(); Doubt::No; rule.grades_needed(MOST_EVENTS)]?;
     let mut table = WorkingTable {
@@ -32,11 +32,11 @@ fn record(rt: &HostRuntime, rule: &Rule, text: &str) -> anyhow::Result<()> {
         rule,
         slice::from_ref(rule),
         events.as_mut_slice(),
-        calls.as_slice(),
+        script.calls.as_slice(),
         answers.as_mut_slice(),
         &mut table,
     );
-    lines(rt, text, answers.as_slice())?;
+    lines(rt, text, &script, answers.as_slice())?;
     match ran {
         Ok(count) => graded(rt, events.as_slice(), table.grades, count),
         Err(refusal) => refused(rt, refusal),

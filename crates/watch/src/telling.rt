@@ -1,5 +1,5 @@
 // What calls were answered, and the grades at the end, in words.
-use crate::calls::{Line, parsed};
+use crate::calls::{Line, Script, parsed};
 use logs::Event;
 use recorded::{Answer, Call, Declined, Outcome};
 use refusals::Refusal;
@@ -34,19 +34,30 @@ fn answered(rt: &HostRuntime, answer: Answer<Doubt>) -> anyhow::Result<()> {
     Ok(())
 }
 
+fn other(rt: &HostRuntime, line: &str) -> anyhow::Result<()> {
+    match parsed(line) {
+        Some(Line::Places { count }) => println!(rt; "places {count}")?,
+        _ => println!(rt; "no call: {line}")?,
+    }
+    Ok(())
+}
+
 // Every line of the calls, each call with its answer.
-pub(crate) fn lines(rt: &HostRuntime, text: &str, answers: &[Answer<Doubt>]) -> anyhow::Result<()> {
-    let mut answers = answers.iter();
-    for line in text.lines() {
-        match parsed(line) {
-            Some(Line::Places { count }) => println!(rt; "places {count}")?,
-            Some(Line::Call { call }) => {
-                asked(rt, call)?;
-                if let Some(answer) = answers.next() {
-                    answered(rt, *answer)?;
-                }
+pub(crate) fn lines(
+    rt: &HostRuntime,
+    text: &str,
+    script: &Script,
+    answers: &[Answer<Doubt>],
+) -> anyhow::Result<()> {
+    let mut played = script.calls.iter().zip(answers.iter());
+    for (line, is_call) in text.lines().zip(script.is_call.iter()) {
+        if *is_call {
+            if let Some((call, answer)) = played.next() {
+                asked(rt, *call)?;
+                answered(rt, *answer)?;
             }
-            None => println!(rt; "no call: {line}")?,
+        } else {
+            other(rt, line)?;
         }
     }
     Ok(())

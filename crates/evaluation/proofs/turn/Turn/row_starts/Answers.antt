@@ -21,7 +21,7 @@ loop-s-preserved g c =
     let s = c.loop-s.s in
     let old = c.args.grades.now in
     let gs = c.loop-s.grades in
-    let clock = c.saturating_sub-clock.result in
+    let clock = c.clock_of-clock.result in
     let reached = c.loop-s.invariant.2 in
     let fitting : Fitting S laws t (length old) c.requires.fits l c.requires.there old clock c.if-not-at_most-2.segment =
     elim c.if-not-at_most-2.branch [
@@ -32,7 +32,7 @@ loop-s-preserved g c =
       | else-not-at_most-2 w ↦
           subst (Fitting S laws t (length old) c.requires.fits l c.requires.there old clock) (sym w.segment-is) (record {
             segmented = c.loop-s.invariant.3;
-            since = clock_rises times t.count s t.at c.loop-s.segment.since clock t.rising c.loop-s-test.true c.loop-s.invariant.1 t.logged c.loop-s.invariant.4 c.saturating_sub-clock.ensures;
+            since = clock_rises times t.count s t.at c.loop-s.segment.since clock t.rising c.loop-s-test.true c.loop-s.invariant.1 t.logged c.loop-s.invariant.4 c.clock_of-clock.ensures;
             until = sym c.at_most-in-loop-s.ensures ∙ w.if-not-at_most-2.false;
           })
     ] in (
@@ -40,20 +40,20 @@ loop-s-preserved g c =
       omega arith,
       reached_more S laws t (length old) c.requires.fits l c.requires.there (s - 1) s clock c.place.result c.if-not-at_most-2.segment
           old gs c.move_start.new.grades (omega arith) (omega arith) c.loop-s.invariant.1 c.loop-s.auto.grades c.place.ensures
-          (clocked S times s t.at t.count clock (omega arith) c.loop-s.invariant.1 t.logged c.saturating_sub-clock.ensures)
+          (clocked S times s t.at t.count clock (omega arith) c.loop-s.invariant.1 t.logged c.clock_of-clock.ensures)
           fitting reached c.move_start.ensures,
       fitting.segmented,
-      omega (arith, fitting.since, c.saturating_sub-clock.ensures),
+      omega (arith, fitting.since, c.clock_of-clock.ensures),
     )
 
 pub returns-then-not-at_most : goal.returns-then-not-at_most
 returns-then-not-at_most g c =
     let S = g.S.Scale.ops in
     let s = c.loop-s.s in
-    reached_passed S g.met.S.Scale.laws c.args.self.now _ c.requires.fits c.args.location c.requires.there s c.saturating_sub-clock.result
+    reached_passed S g.met.S.Scale.laws c.args.self.now _ c.requires.fits c.args.location c.requires.there s c.clock_of-clock.result
     (upper_of c.row_deadline-deadline.result) c.args.grades.now c.loop-s.grades (omega arith) c.loop-s.invariant.1 c.row_deadline-deadline.ensures
     (sym c.at_most.ensures ∙ c.if-not-at_most.true)
-    (clocked S c.args.self.now.times.now s c.args.self.now.at c.args.self.now.count c.saturating_sub-clock.result (omega arith) c.loop-s.invariant.1 c.args.self.now.logged c.saturating_sub-clock.ensures)
+    (clocked S c.args.self.now.times.now s c.args.self.now.at c.args.self.now.count c.clock_of-clock.result (omega arith) c.loop-s.invariant.1 c.args.self.now.logged c.clock_of-clock.ensures)
     c.loop-s.invariant.2
 
 pub returns : goal.returns

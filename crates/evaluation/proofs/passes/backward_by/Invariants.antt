@@ -1,6 +1,6 @@
 use Rattle.std.proofs.Common.{◌*◌, length}
 use Rattle.evaluation.specs.Passes.{EventsDone, Rest}
-use Rattle.evaluation.proofs.passes.backward.Given as goal
+use Rattle.evaluation.proofs.passes.backward_by.Given as goal
 
 abbrev pub invariant-loop-at : goal.invariant-loop-at
 invariant-loop-at g l =
